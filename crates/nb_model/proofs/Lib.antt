@@ -1,0 +1,9 @@
+pub mod Roots
+pub mod Quotients
+pub mod Vectors
+pub mod Pulls
+pub mod Sums
+pub mod Octants
+pub mod Cells
+pub mod Forces
+pub mod Steps

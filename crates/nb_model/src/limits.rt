@@ -1,0 +1,19 @@
+//! The limits of a run, as numbers for the code. The definitions have them in `specs/Limits`.
+
+/// The side of the box is 2 to this power, in box units.
+pub const BOX_BITS: u32 = 40;
+
+/// The side of the box, in box units: each coordinate of a position is below it.
+pub const BOX_SIDE: u64 = 1 << BOX_BITS;
+
+/// The level of the smallest cells, which are never divided. The root cell, at level 0, is the box.
+pub const DEEPEST_LEVEL: u32 = 21;
+
+/// The constant of gravity times the mass of all bodies is below this.
+pub const WEIGHT_LIMIT: u64 = 1 << 60;
+
+/// The speed of a body in the box is below this on each axis, in box units a tick.
+pub const SPEED_LIMIT: u64 = 1 << 61;
+
+/// The most bodies of a list.
+pub const MOST_BODIES: u64 = 1 << 24;
