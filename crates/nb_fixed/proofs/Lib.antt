@@ -1,0 +1,4 @@
+mod Inverses
+mod Karatsuba
+mod Shifts
+mod Table

@@ -1,0 +1,9 @@
+use Rattle.std.proofs.Common.{arith}
+use Rattle.std.proofs.lemmas.Int.{ints}
+use Rattle.nb_model.specs.Vector.{plus}
+use Rattle.nb_model.proofs.Vectors.{same_vector}
+use Rattle.nb_fixed.proofs.recursion.plus.Goals as goal
+
+pub returns : goal.returns
+returns c =
+    same_vector _ (plus c.args.first c.args.second) (omega (arith, ints)) (omega (arith, ints)) (omega (arith, ints))

@@ -1,0 +1,145 @@
+//! The forward tick of a list of bodies: a half kick, a whole drift, a half kick.
+
+ghost use Rattle.std.specs.Prelude.{◌≡◌, ◌*◌, ◌<◌, ◌≤◌, length, All, IfOk, OnOk, OnErr, true, if◌then◌else◌};
+ghost use Rattle.nb_model.specs.Limits.{weight_limit, speed_limit, most_bodies};
+ghost use Rattle.nb_model.specs.Vector.{zero_vector, plus};
+ghost use Rattle.nb_model.specs.Gravity.{force_on};
+ghost use Rattle.nb_model.specs.Octree.{total_mass};
+ghost use Rattle.nb_model.specs.Leapfrog.{in_box, escaped_count, accelerate, kick, is_coordinate, is_position, position_of, vector_of, drift_body, drift, forward_step};
+ghost use Rattle.nb_model.specs.Valid.{AreInRange, IsInBox, IsBelow, IsValidBody, IsKickedBody, IsValidBodies};
+
+use crate::recursion::{force_on, plus};
+use nb_model::{At, BOX_SIDE, Body, NoMemory, Params, V3};
+use std::alloc::{AllocError, Global};
+
+fn in_box(alloc: Global, bodies: &[Body]) -> Result<Vec<Body>, NoMemory>
+    ensures { IfOk result (λ inside. inside.items ≡ in_box bodies.now) }
+{
+    bodies
+        .iter()
+        .copied()
+        .filter(|body| !body.out)
+        .collect(alloc)
+        .map_err(|_: AllocError| NoMemory)
+}
+
+/// A body of a valid list after its half kick, where `inside` are the list's bodies in the box.
+fn kicked_body(
+    alloc: Global,
+    params: &Params,
+    inside: &[Body],
+    body: Body,
+) -> Result<Body, NoMemory>
+    requires params { AreInRange params.now }
+    requires each { All IsValidBody inside.now }
+    requires count { length inside.now ≤ most_bodies }
+    requires weight { params.now.grav * total_mass inside.now < weight_limit }
+    requires body { IsValidBody body }
+    ensures { IfOk result (λ kicked. kicked ≡ accelerate
+        (if body.out then zero_vector else force_on params.now body.at 0 inside.now) body) }
+{
+    if body.out {
+        return Ok(body);
+    }
+    let force = force_on(alloc, params, &body.at, 0, inside)?;
+    Ok(Body {
+        v: plus(body.v, force),
+        ..body
+    })
+}
+
+/// The bodies of a valid list after their half kicks.
+pub fn kick(alloc: Global, params: &Params, bodies: &[Body]) -> Result<Vec<Body>, NoMemory>
+    requires params { AreInRange params.now }
+    requires valid { IsValidBodies params.now bodies.now }
+    ensures { IfOk result (λ kicked. kicked.items ≡ kick params.now bodies.now) }
+{
+    let inside = in_box(alloc, bodies)?;
+    let mut kicked = Vec::with_capacity(alloc, bodies.len())?;
+    for body in bodies {
+        kicked.push(kicked_body(alloc, params, &inside, *body)?)?;
+    }
+    Ok(kicked)
+}
+
+fn is_coordinate(c: i64) -> bool
+    ensures { result ≡ is_coordinate c }
+{
+    0 <= c && c < BOX_SIDE as i64
+}
+
+fn is_position(r: &V3) -> bool
+    ensures { result ≡ is_position r.now }
+{
+    is_coordinate(r.x) && is_coordinate(r.y) && is_coordinate(r.z)
+}
+
+fn position_of(r: &V3) -> At
+    requires { is_position r.now ≡ true }
+    ensures { result ≡ position_of r.now }
+{
+    At {
+        x: r.x as u64,
+        y: r.y as u64,
+        z: r.z as u64,
+    }
+}
+
+/// Where a body in the box is after it has moved by its velocity.
+fn destination(body: &Body) -> V3
+    requires at { IsInBox body.now.at }
+    requires speed { IsBelow (2 * speed_limit) body.now.v }
+    ensures { result ≡ plus (vector_of body.now.at) body.now.v }
+{
+    V3 {
+        x: body.at.x as i64 + body.v.x,
+        y: body.at.y as i64 + body.v.y,
+        z: body.at.z as i64 + body.v.z,
+    }
+}
+
+/// A body after its drift: moved, or out where it would leave the box.
+fn drift_body(body: Body) -> Body
+    requires { IsKickedBody body }
+    ensures { result ≡ drift_body body }
+{
+    if body.out {
+        return body;
+    }
+    let there = destination(&body);
+    if is_position(&there) {
+        Body {
+            at: position_of(&there),
+            ..body
+        }
+    } else {
+        Body { out: true, ..body }
+    }
+}
+
+fn drift(bodies: &mut [Body])
+    requires { All IsKickedBody bodies.old }
+    ensures { bodies.new ≡ drift bodies.old }
+{
+    for body in bodies.iter_mut() {
+        *body = drift_body(*body);
+    }
+}
+
+/// One tick forward: the list becomes the definition's, and the answer is how many of its bodies have left
+/// the box. Where memory is wanting the list is as it was.
+pub fn plain_tick(alloc: Global, params: &Params, bodies: &mut Vec<Body>) -> Result<u64, NoMemory>
+    requires params { AreInRange params.now }
+    requires valid { IsValidBodies params.now bodies.old.items }
+    ensures tick { OnOk result (bodies.new.items ≡ forward_step params.now bodies.old.items) }
+    ensures stays_valid { OnOk result (IsValidBodies params.now bodies.new.items) }
+    ensures escaped { IfOk result (λ count. count ≡ escaped_count bodies.new.items) }
+    ensures refused { OnErr result (bodies.new.items ≡ bodies.old.items) }
+{
+    let mut drifted = kick(alloc, params, bodies)?;
+    drift(&mut drifted);
+    let kicked = kick(alloc, params, &drifted)?;
+    let escaped = kicked.iter().filter(|body| body.out).count() as u64;
+    *bodies = kicked;
+    Ok(escaped)
+}

@@ -1,0 +1,22 @@
+//! The arithmetic of a pull, in whole numbers, and the tick of a list of bodies by the definition itself.
+//!
+//! `root`, `trunc_div`, `pull` and `opens` are what every walk of a tree calls, and take no memory.
+//! `plain_tick` has no keys and no pages: it is the definition run, for small lists and for comparison.
+#![tactic(auto)]
+
+mod cell;
+mod distance;
+mod leapfrog;
+mod monopole;
+mod opening;
+mod quotient;
+mod recursion;
+mod square_root;
+#[cfg(test)]
+mod tests;
+
+pub use leapfrog::plain_tick;
+pub use monopole::pull;
+pub use opening::opens;
+pub use quotient::trunc_div;
+pub use square_root::root;

@@ -1,0 +1,116 @@
+//! The pull of a mass: a softened monopole.
+
+ghost use Rattle.std.specs.Prelude.{◌≡◌, ◌+◌, ◌*◌, ◌/◌, ◌%◌, ◌^◌, ◌<◌, ◌≤◌, pos, ◌-ℤ◌, unsigned_abs};
+ghost use Rattle.nb_model.specs.Limits.{weight_limit};
+ghost use Rattle.nb_model.specs.Root.{integer_root};
+ghost use Rattle.nb_model.specs.Gravity.{pull, pull_along};
+ghost use Rattle.nb_model.specs.Valid.{AreInRange, IsInBox};
+
+use crate::distance::{distance_along, distance_squared};
+use crate::square_root::root_of_word;
+use nb_model::{At, Params, V3};
+
+/// The inverse of a root is a part of this.
+const ONE: u64 = 1 << 63;
+
+/// What the three axes of a pull share: the softened square with its root, and the weight over that square.
+#[derive(Drop)]
+struct Scale {
+    /// The softened square, from 1 on.
+    square: u64,
+    /// Its root.
+    root: u64,
+    /// `ONE` over the root, rounded down.
+    inverse: u64,
+    /// The weight over the square, rounded down.
+    whole: u64,
+    /// The weight modulo the square.
+    rest: u64,
+    ghost some_square: { 1 ≤ square },
+    ghost root_of_square: { root ≡ integer_root square },
+    ghost inverse_of_root: { inverse ≡ 2 ^ 63 / root },
+    ghost part: { rest < square },
+    ghost weight: { whole * square + rest < weight_limit },
+}
+
+/// A quotient and what the division leaves.
+#[derive(Clone, Copy)]
+struct Quotient {
+    floor: u64,
+    over: u64,
+}
+
+/// A number over the root, by a multiplication with its inverse (Granlund and Montgomery 1994), which gives
+/// the quotient or one less.
+#[inline(always)]
+fn over_root(scale: &Scale, n: u64) -> Quotient
+    requires { n < weight_limit }
+    ensures floor { result.floor ≡ n / scale.now.root }
+    ensures over { result.over ≡ n % scale.now.root }
+{
+    let floor = (n as u128 * scale.inverse as u128 / ONE as u128) as u64;
+    let over = n - floor * scale.root;
+    if over < scale.root {
+        return Quotient { floor, over };
+    }
+    Quotient {
+        floor: floor + 1,
+        over: over - scale.root,
+    }
+}
+
+/// The size of the pull along an axis at this distance: the weight over the square, times the distance, over
+/// the root.
+fn size_along(scale: &Scale, distance: u64) -> u64
+    requires { distance * distance ≤ scale.now.square }
+    ensures value { result ≡ (scale.now.whole * scale.now.square + scale.now.rest) * distance
+        / (scale.now.square * scale.now.root) }
+    ensures bound { result < weight_limit }
+{
+    let Quotient { floor, over } = over_root(scale, scale.whole * distance);
+    // The rest of the weight adds one where it makes up for what is missing.
+    let missing = (scale.root - over) as u128 * scale.square as u128;
+    let made_up = scale.rest as u128 * distance as u128;
+    if missing <= made_up { floor + 1 } else { floor }
+}
+
+/// The pull along an axis, in box units a tick.
+fn along(scale: &Scale, from: u64, to: u64) -> i64
+    requires { unsigned_abs (pos to -ℤ pos from) * unsigned_abs (pos to -ℤ pos from) ≤ scale.now.square }
+    ensures { result ≡ pull_along (scale.now.whole * scale.now.square + scale.now.rest) scale.now.square
+        (pos to -ℤ pos from) }
+{
+    let size = size_along(scale, distance_along(from, to)) as i64;
+    if from <= to { size } else { -size }
+}
+
+/// The half kick that a mass at `centre` gives to a body at `from`, in box units a tick.
+pub fn pull(params: &Params, from: &At, mass: u64, centre: &At) -> V3
+    requires params { AreInRange params.now }
+    requires from { IsInBox from.now }
+    requires centre { IsInBox centre.now }
+    requires weight { params.now.grav * mass < weight_limit }
+    ensures { result ≡ pull params.now from.now mass centre.now }
+{
+    let weight = params.grav * mass;
+    let soft = u128::from(params.soft);
+    let square = distance_squared(from, centre) + soft * soft;
+    if square > u128::from(weight) {
+        // Each distance is at most the root, so that each quotient is below 1.
+        return V3 { x: 0, y: 0, z: 0 };
+    }
+    let square = square as u64;
+    let root = root_of_word(square);
+    let scale = Scale {
+        square,
+        root,
+        inverse: ONE / root,
+        whole: weight / square,
+        rest: weight % square,
+    };
+    V3 {
+        x: along(&scale, from.x, centre.x),
+        y: along(&scale, from.y, centre.y),
+        z: along(&scale, from.z, centre.z),
+    }
+}

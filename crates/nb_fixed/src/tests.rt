@@ -1,0 +1,367 @@
+//! Values worked out by hand.
+
+ghost use Rattle.std.specs.Prelude.{◌≡◌, ℕ, ◌+◌, ◌<◌, ◌≤◌, ◌^◌, true, length, map, All};
+ghost use Rattle.std.specs.List.Sorted.{IsStrictlyIncreasing};
+ghost use Rattle.nb_model.specs.Limits.{speed_limit};
+ghost use Rattle.nb_model.specs.Octree.{total_mass};
+ghost use Rattle.nb_model.specs.Valid.{AreInRange, IsInBox, IsBelow, IsValidBody, IsValidBodies};
+
+use crate::cell::mass_and_centre;
+use crate::leapfrog::kick;
+use crate::{opens, plain_tick, root, trunc_div};
+use nb_model::{At, Body, Params, V3};
+use std::alloc::Global;
+use std::process::Abort;
+use std::test::Fail;
+
+/// Half the side of the box.
+const HALF: u64 = 549755813888;
+
+/// The parameters of the tests, with these of them changed.
+fn params(grav: u64, theta_num: u64, theta_den: u64, leaf: u64) -> Params
+    requires grav { grav < 2 ^ 60 }
+    requires theta_num { theta_num ≤ 32768 }
+    requires some_theta_den { 1 ≤ theta_den }
+    requires theta_den { theta_den ≤ 32768 }
+    requires some_leaf { 1 ≤ leaf }
+    requires leaf { leaf ≤ 32 }
+    ensures { AreInRange result }
+{
+    Params {
+        grav,
+        theta_num,
+        theta_den,
+        soft: 1,
+        leaf,
+        every: 100,
+    }
+}
+
+/// A body in the box on the middle line of the x axis, or on its edge where `y` and `z` are 0.
+fn body(id: u64, mass: u32, at: At, x: i64) -> Body {
+    Body {
+        id,
+        mass,
+        out: false,
+        at,
+        v: V3 { x, y: 0, z: 0 },
+    }
+}
+
+fn is_below_speed_limit(v: &V3) -> bool
+    ensures { result ≡ true → IsBelow speed_limit v.now }
+{
+    v.x.unsigned_abs() < 1 << 61 && v.y.unsigned_abs() < 1 << 61 && v.z.unsigned_abs() < 1 << 61
+}
+
+fn is_in_box(at: &At) -> bool
+    ensures { result ≡ true → IsInBox at.now }
+{
+    at.x < 1 << 40 && at.y < 1 << 40 && at.z < 1 << 40
+}
+
+fn is_valid_body(body: &Body) -> bool
+    ensures { result ≡ true → IsValidBody body.now }
+{
+    1 <= body.mass && is_in_box(&body.at) && is_below_speed_limit(&body.v)
+}
+
+fn are_valid_bodies(bodies: &[Body]) -> bool
+    ensures { result ≡ true → All IsValidBody bodies.now }
+{
+    for body in bodies {
+        if !is_valid_body(body) {
+            return false;
+        }
+    }
+    true
+}
+
+fn ids_rise(bodies: &[Body]) -> bool
+    ensures { result ≡ true → IsStrictlyIncreasing (map (λ b. b.id) bodies.now) }
+{
+    for i in 1..bodies.len() {
+        if bodies[i].id <= bodies[i - 1].id {
+            return false;
+        }
+    }
+    true
+}
+
+fn total_mass(bodies: &[Body]) -> u64
+    requires { length bodies.now ≤ 4 }
+    ensures value { result ≡ total_mass bodies.now }
+{
+    let mut mass = 0u64;
+    for body in bodies {
+        mass += u64::from(body.mass);
+    }
+    mass
+}
+
+/// Whether a list of at most four bodies is valid.
+fn are_valid(params: &Params, bodies: &[Body]) -> bool
+    ensures { result ≡ true → IsValidBodies params.now bodies.now }
+{
+    if bodies.len() > 4 || !are_valid_bodies(bodies) || !ids_rise(bodies) {
+        return false;
+    }
+    u128::from(params.grav) * u128::from(total_mass(bodies)) < 1 << 60
+}
+
+/// The velocities along x after the first half kick.
+fn kicks(rt: &impl Abort, alloc: Global, params: &Params, bodies: &[Body]) -> Result<Vec<i64>, Fail>
+    requires { AreInRange params.now }
+{
+    assert!(rt; are_valid(params, bodies));
+    let kicked = kick(alloc, params, bodies)?;
+    let mut along = Vec::new(alloc);
+    for body in &kicked {
+        along.push(body.v.x)?;
+    }
+    Ok(along)
+}
+
+#[test]
+fn pulls_round_toward_zero(rt: HostRuntime) -> Result<(), Fail> {
+    let alloc = rt.alloc();
+    let bodies = [
+        body(
+            1,
+            1,
+            At {
+                x: HALF,
+                y: HALF,
+                z: HALF,
+            },
+            0,
+        ),
+        body(
+            2,
+            1000,
+            At {
+                x: HALF + 1000,
+                y: HALF,
+                z: HALF,
+            },
+            0,
+        ),
+    ];
+    let along = kicks(&rt, alloc, &params(1_000_000_000, 1, 2, 8), &bodies)?;
+    assert_eq!(rt; along.as_slice(), [999_999, -999].as_slice());
+    Ok(())
+}
+
+#[test]
+fn cells_are_taken_whole_or_opened(rt: HostRuntime) -> Result<(), Fail> {
+    let alloc = rt.alloc();
+    let bodies = [
+        body(1, 1, At { x: 0, y: 0, z: 0 }, 0),
+        body(
+            2,
+            1,
+            At {
+                x: 1_048_577,
+                y: 0,
+                z: 0,
+            },
+            0,
+        ),
+        body(
+            3,
+            1,
+            At {
+                x: 1_048_580,
+                y: 0,
+                z: 0,
+            },
+            0,
+        ),
+    ];
+    let grav = 1_000_200_000_000_000;
+    let cases = [
+        (params(grav, 1, 1, 1), 1819, "taken at level 20"),
+        (params(grav, 0, 1, 1), 1818, "never taken"),
+        (params(grav, 1, 1, 8), 1818, "one leaf"),
+    ];
+    for (params, want, why) in cases {
+        let along = kicks(&rt, alloc, &params, &bodies)?;
+        assert_eq!(rt; along.len(), 3);
+        assert_eq!(rt; along[0], want, "{why}");
+    }
+    Ok(())
+}
+
+#[test]
+fn a_tick_of_two_bodies(rt: HostRuntime) -> Result<(), Fail> {
+    let params = params(1_000_000_000, 1, 2, 8);
+    let first = body(
+        1,
+        1,
+        At {
+            x: HALF,
+            y: HALF,
+            z: HALF,
+        },
+        0,
+    );
+    let second = body(
+        2,
+        1000,
+        At {
+            x: HALF + 1000,
+            y: HALF,
+            z: HALF,
+        },
+        0,
+    );
+    let mut bodies = [first, second].to_vec(rt.alloc())?;
+    assert!(rt; are_valid(&params, &bodies));
+    assert_eq!(rt; plain_tick(rt.alloc(), &params, &mut bodies)?, 0);
+    assert_eq!(rt; bodies.len(), 2);
+    assert_eq!(rt;
+        bodies[0],
+        body(
+            1,
+            1,
+            At {
+                x: HALF + 999_999,
+                y: HALF,
+                z: HALF
+            },
+            999_998
+        )
+    );
+    assert_eq!(rt;
+        bodies[1],
+        body(
+            2,
+            1000,
+            At {
+                x: HALF + 1,
+                y: HALF,
+                z: HALF
+            },
+            -999
+        )
+    );
+    Ok(())
+}
+
+#[test]
+fn a_body_leaves_the_box(rt: HostRuntime) -> Result<(), Fail> {
+    let params = params(1_000_000_000, 1, 2, 8);
+    let before = body(
+        7,
+        3,
+        At {
+            x: 2 * HALF - 1,
+            y: 0,
+            z: 0,
+        },
+        1,
+    );
+    let mut bodies = [before].to_vec(rt.alloc())?;
+    assert!(rt; are_valid(&params, &bodies));
+    assert_eq!(rt; plain_tick(rt.alloc(), &params, &mut bodies)?, 1);
+    assert_eq!(rt; bodies.len(), 1);
+    assert_eq!(rt;
+        bodies[0],
+        Body {
+            out: true,
+            ..before
+        }
+    );
+    Ok(())
+}
+
+#[test]
+fn a_centre_is_rounded_down(rt: HostRuntime) {
+    let bodies = [
+        body(1, 1, At { x: 0, y: 0, z: 0 }, 0),
+        body(2, 2, At { x: 1, y: 0, z: 0 }, 0),
+    ];
+    assert!(rt; are_valid_bodies(&bodies));
+    let (mass, centre) = mass_and_centre(&bodies);
+    assert_eq!(rt; mass, 3);
+    assert_eq!(rt; centre, At { x: 0, y: 0, z: 0 });
+}
+
+#[test]
+fn cells_that_open(rt: HostRuntime) {
+    let from = At { x: 0, y: 0, z: 0 };
+    let wide = params(1, 32768, 1, 8);
+    let unit = params(1, 1, 1, 8);
+    let far = At {
+        x: 1 << 30,
+        y: 0,
+        z: 0,
+    };
+    assert!(rt; opens(&wide, &from, 0, &far, true), "it holds the body");
+    assert!(rt; !opens(&wide, &from, 0, &far, false), "far enough");
+    assert!(rt;
+        opens(
+            &unit,
+            &from,
+            20,
+            &At {
+                x: 1_048_576,
+                y: 0,
+                z: 0
+            },
+            false
+        ),
+        "just as far as its side"
+    );
+    assert!(rt;
+        !opens(
+            &unit,
+            &from,
+            20,
+            &At {
+                x: 1_048_577,
+                y: 0,
+                z: 0
+            },
+            false
+        ),
+        "one unit further"
+    );
+    assert!(rt;
+        opens(&wide, &from, 21, &from, false),
+        "its centre on the body"
+    );
+}
+
+#[test]
+fn roots(rt: HostRuntime) {
+    let cases = [
+        (0, 0),
+        (1, 1),
+        (2, 1),
+        (3, 1),
+        (4, 2),
+        (18_446_744_073_709_551_615, 4_294_967_295),
+        (18_446_744_073_709_551_616, 4_294_967_296),
+        (1_208_925_819_614_629_174_706_175, 1_099_511_627_775),
+        (1_208_925_819_614_629_174_706_176, 1_099_511_627_776),
+        (1_208_925_819_614_629_174_706_177, 1_099_511_627_776),
+        (u128::MAX, u64::MAX),
+    ];
+    for (q, want) in cases {
+        assert_eq!(rt; root(q), want, "the root of {q}");
+    }
+}
+
+#[test]
+fn quotients_go_toward_zero(rt: HostRuntime) {
+    for (n, d, want) in [
+        (7, 2, 3),
+        (-7, 2, -3),
+        (-1, 2, 0),
+        (0, 5, 0),
+        (i128::MIN, 1, i128::MIN),
+    ] {
+        assert_eq!(rt; trunc_div(n, d), want, "{n} over {d}");
+    }
+}
