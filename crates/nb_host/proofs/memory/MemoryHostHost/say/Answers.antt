@@ -1,0 +1,23 @@
+-- A say that was refused counts once on its channel, and no other does.
+use Rattle.std.proofs.Common.{sym}
+use Rattle.nb_host.specs.Channels.{refused_on}
+use Rattle.nb_host.proofs.Calls.{counts_no_refusal, counts_refusal, counts_refusal_once}
+use Rattle.nb_host.proofs.memory.MemoryHostHost.say.Goals as goal
+
+pub returns-then-is_ok-clause-refused : goal.returns-then-is_ok-clause-refused
+returns-then-is_ok-clause-refused c =
+    let spoken = c.speak-answer in
+    counts_no_refusal c.args.channel _ _ spoken.result (sym c.if-is_ok.ensures.value) spoken.ensures.refused
+
+pub returns-clause-refused : goal.returns-clause-refused
+returns-clause-refused c =
+    let spoken = c.speak-answer in
+    let counted = c.count.ensures in
+    counts_refusal c.args.channel _ _ _ spoken.result (sym c.if-is_ok.ensures.value) spoken.ensures.refused
+    counted.no_less counted.count counted.others
+
+pub returns-clause-refused_once : goal.returns-clause-refused_once
+returns-clause-refused_once c =
+    let spoken = c.speak-answer in
+    counts_refusal_once c.args.channel _ _ (refused_on c.count.new.self) spoken.result
+    spoken.ensures.refused c.count.ensures.count
