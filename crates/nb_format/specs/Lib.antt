@@ -1,0 +1,5 @@
+pub mod Errors
+pub mod Snapshot
+pub mod Fields
+pub mod Reader
+pub mod Writer

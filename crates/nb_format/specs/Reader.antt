@@ -1,0 +1,66 @@
+-- What a snapshot reader has read.
+use Rattle.std.specs.Prelude.{◌≡◌, ℕ, ◌+◌, ◌<◌, ◌≤◌, Option, Some, None, IfSome, List, [], ◌∷◌, ◌++◌, length, take}
+use Rattle.std.specs.List.{flat_map}
+use Rattle.nb_model.specs.declared.body.Body.{Body}
+use Rattle.nb_model.specs.Limits.{most_bodies}
+use Rattle.nb_format.specs.declared.snap_reader.SnapReader.{SnapReader}
+use Rattle.nb_format.specs.Snapshot.{header_bytes, record_bytes, snapshot_length, IsStoredBody, AreStoredBodies}
+
+-- the number of the reader's file
+abbrev pub file_of : SnapReader → ℕ
+file_of reader = reader.file
+
+-- how many bodies the header tells
+abbrev pub count_of : SnapReader → ℕ
+count_of reader = reader.count
+
+-- the time that the header tells
+abbrev pub time_of : SnapReader → ℕ
+time_of reader = reader.time
+
+-- how many bodies were read
+abbrev pub read_count : SnapReader → ℕ
+read_count reader = reader.read
+
+-- the id of the body that was read last
+abbrev pub last_id : SnapReader → Option ℕ
+last_id reader = reader.last
+
+-- The reader of a file at its first record, over any host.
+pub record IsAtStart (number : ℕ) (reader : SnapReader) : Type 0 where
+  pub file : file_of reader ≡ number
+  pub count : count_of reader ≤ most_bodies
+  pub read : read_count reader ≡ 0
+  pub last : last_id reader ≡ None
+
+-- A body that may follow those that were read, over any host.
+pub record MayFollow (reader : SnapReader) (body : Body) : Type 0 where
+  pub stored : IsStoredBody body
+  pub rises : IfSome (last_id reader) (λ id. id < body.id)
+
+-- The reader is behind one more body, and about the same file.
+pub record IsBehind (body : Body) (old new : SnapReader) : Type 0 where
+  pub file : file_of new ≡ file_of old
+  pub count : count_of new ≡ count_of old
+  pub time : time_of new ≡ time_of old
+  pub read : read_count new ≡ read_count old + 1
+  pub last : last_id new ≡ Some body.id
+
+-- The id of the last body of a list, which may be empty.
+abbrev pub last_of : List Body → Option ℕ
+last_of [] = None
+last_of (b ∷ []) = Some b.id
+last_of (b ∷ c ∷ bs) = last_of (c ∷ bs)
+
+-- The file has the length that its header tells, and begins with the spelling of the header and of these bodies, which
+-- are those that the reader has read.
+pub record HasRead (reader : SnapReader) (bytes : List ℕ) (bodies : List Body) : Type 0 where
+  pub whole : length bytes ≡ snapshot_length (count_of reader)
+  pub read : read_count reader ≡ length bodies
+  pub last : last_id reader ≡ last_of bodies
+  pub stored : AreStoredBodies bodies
+  pub begins : take (snapshot_length (length bodies)) bytes ≡ header_bytes (count_of reader) (time_of reader) ++ flat_map record_bytes bodies
+
+-- The reader's file reads as when it was opened, or has become shorter since.
+abbrev pub IsFrontOf : List ℕ → List ℕ → Type 0
+IsFrontOf bytes now = (n : ℕ) × (now ≡ take n bytes)

@@ -1,0 +1,18 @@
+//! Laws over the snapshot form. Each is a function that does nothing: its contract is the law, for all
+//! bytes and lists.
+
+ghost use Rattle.std.specs.Prelude.{◌≡◌, ℕ, List, length};
+ghost use Rattle.nb_model.specs.declared.body.Body.{Body};
+ghost use Rattle.nb_format.specs.Snapshot.{IsSnapshot, IsFinishedSnapshot};
+
+/// The same bytes are a snapshot of one list and one time only.
+pub fn law_one_snapshot()
+    ensures { (bytes : List ℕ) (a b : List Body) (s t : ℕ) → IsSnapshot bytes a s → IsSnapshot bytes b t
+        → (a ≡ b) × (s ≡ t) }
+{}
+
+/// A snapshot is finished, for the count of its bodies.
+pub fn law_snapshot_is_finished()
+    ensures { (bytes : List ℕ) (bodies : List Body) (time : ℕ) → IsSnapshot bytes bodies time
+        → IsFinishedSnapshot (length bodies) bytes }
+{}

@@ -1,0 +1,189 @@
+//! The snapshot writer, as three types: `Fresh` is to be begun, `Filling` takes bodies, `Closed` is a
+//! finished file.
+//!
+//! Byte 0 of a snapshot is its gate. It is a stable 0 from before the file grows past one byte until all
+//! else is stable, and is opened last, so a file that a fault or a crash leaves in part is never taken for
+//! a finished one.
+
+ghost use Rattle.std.specs.Prelude.{◌≡◌, ℕ, ◌+◌, ◌<◌, ◌≤◌, IsTrue, IfOk, OnOk, List, [], ◌∷◌, ◌++◌};
+ghost use Rattle.std.specs.Option.{ForSome};
+ghost use Rattle.nb_model.specs.Limits.{most_bodies};
+ghost use Rattle.nb_host.specs.declared.host.TheConstants.{LAST_FILE};
+ghost use Rattle.nb_host.specs.Faults.{CountsFault};
+ghost use Rattle.nb_host.specs.Image.{FileBecomes};
+
+use crate::header::{self, GATE};
+use crate::length::snapshot_length;
+use crate::record;
+use nb_host::{Host, HostError, LAST_FILE};
+use nb_model::Body;
+
+/// The place of the gate, in bytes.
+const GATE_PLACE: u64 = 0;
+
+/// The place behind the gate, in bytes.
+const BEHIND_GATE: u64 = 1;
+
+/// The gate byte of a snapshot that isn't finished.
+const SHUT: u8 = 0;
+
+/// A snapshot that is to be written.
+#[derive(Debug, Drop)]
+pub struct Fresh {
+    file: u64,
+    count: u64,
+    time: u64,
+    ghost number: { file ≤ LAST_FILE },
+    ghost few: { count ≤ most_bodies },
+}
+
+/// A snapshot whose header is written, behind a shut gate. It takes its bodies one after the other.
+#[derive(Debug, Drop)]
+pub struct Filling {
+    file: u64,
+    count: u64,
+    time: u64,
+    /// How many bodies were added.
+    added: u64,
+    /// The id of the last of them.
+    last: Option<u64>,
+    ghost number: { file ≤ LAST_FILE },
+    ghost few: { count ≤ most_bodies },
+    ghost within: { added ≤ count },
+}
+
+/// A finished snapshot.
+#[derive(Debug, Drop)]
+pub struct Closed {
+    file: u64,
+}
+
+impl Fresh {
+    ghost use Rattle.nb_format.specs.Writer.{fresh_plan, IsEmptyFilling, StaysUnfinished, IsShut, IsBegun};
+
+    /// The snapshot of `count` bodies at a time in ticks, which is to be written into the file.
+    pub fn new(file: u64, count: u64, time: u64) -> Fresh
+        requires number { file ≤ LAST_FILE }
+        requires few { count ≤ most_bodies }
+        ensures { fresh_plan result ≡ record { file = file; count = count; time = time } }
+    {
+        Fresh { file, count, time }
+    }
+
+    /// Shuts the gate and writes the header. A refusal hands nothing back, and an unfinished file stays
+    /// unfinished.
+    pub fn begin<H: Host>(self, host: &mut H) -> Result<Filling, HostError>
+        ensures empty { IfOk result (IsEmptyFilling (fresh_plan self)) }
+        ensures begun { OnOk result (IsTrue (H.tells host.old)
+            → FileBecomes (fresh_plan self).file (IsBegun (fresh_plan self))
+            (H.contents host.old) (H.contents host.new)) }
+        ensures unfinished { IsTrue (H.tells host.old)
+            → FileBecomes (fresh_plan self).file StaysUnfinished (H.contents host.old) (H.contents host.new) }
+        ensures told { H.tells host.new ≡ H.tells host.old }
+        ensures fault { CountsFault (H.faults host.old) (H.faults host.new) result }
+        ensures refused { H.refused_says host.new ≡ H.refused_says host.old }
+    {
+        self.shut(host)?;
+        let Fresh { file, count, time } = self;
+        let header = header::encode(count, time);
+        host.write_at(file, BEHIND_GATE, &header[BEHIND_GATE as usize..])?;
+        Ok(Filling {
+            file,
+            count,
+            time,
+            added: 0,
+            last: None,
+        })
+    }
+
+    /// Leaves nothing of the file but a stable 0 in place of its gate.
+    fn shut<H: Host>(&self, host: &mut H) -> Result<(), HostError>
+        ensures shut { OnOk result (IsTrue (H.tells host.old)
+            → FileBecomes (fresh_plan self.now).file IsShut (H.contents host.old) (H.contents host.new)) }
+        ensures unfinished { IsTrue (H.tells host.old)
+            → FileBecomes (fresh_plan self.now).file StaysUnfinished (H.contents host.old)
+            (H.contents host.new) }
+        ensures told { H.tells host.new ≡ H.tells host.old }
+        ensures fault { CountsFault (H.faults host.old) (H.faults host.new) result }
+        ensures refused { H.refused_says host.new ≡ H.refused_says host.old }
+    {
+        host.cut(self.file, BEHIND_GATE)?;
+        host.sync()?;
+        host.write_at(self.file, GATE_PLACE, &[SHUT])?;
+        host.sync()
+    }
+}
+
+impl Filling {
+    ghost use Rattle.nb_model.specs.declared.body.Body.{Body};
+    ghost use Rattle.nb_model.specs.Valid.{IsValidBody};
+    ghost use Rattle.nb_format.specs.Writer.{plan_of, added_count, last_added, HasOneMore, HasFilled, StaysShut, IsFinishedAs, IsFinishedOrNot, closed_file};
+
+    /// Adds a body at the end. A refusal hands nothing back, and the gate stays shut.
+    pub fn add<H: Host>(self, host: &mut H, body: &Body) -> Result<Filling, HostError>
+        requires room { added_count self < (plan_of self).count }
+        requires valid { IsValidBody body.now }
+        requires rises { ForSome (last_added self) (λ id. id < body.now.id) }
+        ensures added { IfOk result (HasOneMore body.now self) }
+        ensures filled { (bodies : List Body) → IsTrue (H.tells host.old)
+            → HasFilled self ((H.contents host.old).file (plan_of self).file) bodies
+            → IfOk result (λ filling. HasFilled filling ((H.contents host.new).file (plan_of self).file)
+            (bodies ++ body.now ∷ [])) }
+        ensures shut { IsTrue (H.tells host.old)
+            → FileBecomes (plan_of self).file StaysShut (H.contents host.old) (H.contents host.new) }
+        ensures told { H.tells host.new ≡ H.tells host.old }
+        ensures fault { CountsFault (H.faults host.old) (H.faults host.new) result }
+        ensures refused { H.refused_says host.new ≡ H.refused_says host.old }
+    {
+        let Filling {
+            file,
+            count,
+            time,
+            added,
+            ..
+        } = self;
+        host.write_at(file, snapshot_length(added), &record::encode(body))?;
+        Ok(Filling {
+            file,
+            count,
+            time,
+            added: added + 1,
+            last: Some(body.id),
+        })
+    }
+
+    /// Makes all that was written stable, and then opens the gate. A refusal hands nothing back: the file is
+    /// unfinished then, or finished with the right bytes.
+    pub fn close<H: Host>(self, host: &mut H) -> Result<Closed, HostError>
+        requires { added_count self ≡ (plan_of self).count }
+        ensures closed { IfOk result (λ closed. closed_file closed ≡ (plan_of self).file) }
+        ensures finished { (bodies : List Body) → IsTrue (H.tells host.old)
+            → HasFilled self ((H.contents host.old).file (plan_of self).file) bodies
+            → OnOk result (FileBecomes (plan_of self).file (IsFinishedAs bodies (plan_of self).time)
+            (H.contents host.old) (H.contents host.new)) }
+        ensures either { (bodies : List Body) → IsTrue (H.tells host.old)
+            → HasFilled self ((H.contents host.old).file (plan_of self).file) bodies
+            → FileBecomes (plan_of self).file (IsFinishedOrNot bodies (plan_of self).time)
+            (H.contents host.old) (H.contents host.new) }
+        ensures told { H.tells host.new ≡ H.tells host.old }
+        ensures fault { CountsFault (H.faults host.old) (H.faults host.new) result }
+        ensures refused { H.refused_says host.new ≡ H.refused_says host.old }
+    {
+        let Filling { file, .. } = self;
+        host.sync()?;
+        host.write_at(file, GATE_PLACE, &[GATE])?;
+        host.sync()?;
+        Ok(Closed { file })
+    }
+}
+
+impl Closed {
+    ghost use Rattle.nb_format.specs.Writer.{closed_file};
+
+    /// The number of the finished file.
+    pub fn file(&self) -> u64
+        ensures { result ≡ closed_file self.now }
+    {
+        self.file
+    }
+}

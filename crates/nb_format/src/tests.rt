@@ -1,0 +1,278 @@
+//! Bytes that were written by hand, files that are no snapshot, and calls that fail.
+
+use super::*;
+use nb_host::{Host, HostError, MemoryHost};
+use nb_model::{At, Body, V3};
+use std::alloc::Global;
+use std::test::*;
+
+const FILE: u64 = 1;
+
+/// One body at time 0: id 7, mass 3, at (5, 5, 5), with the velocity (1, 0, 0).
+const ONE: [u8; 96] = [
+    0x46, 0x4e, 0x42, 0x53, 0x4e, 0x41, 0x50, 0x31, 1, 0, 0, 0, 0, 0, 0, 0, //
+    0, 0, 0, 0, 0, 0, 0, 0, 0, 0, 0, 0, 0, 0, 0, 0, //
+    7, 0, 0, 0, 0, 0, 0, 0, 3, 0, 0, 0, 0, 0, 0, 0, //
+    5, 0, 0, 0, 0, 0, 0, 0, 5, 0, 0, 0, 0, 0, 0, 0, //
+    5, 0, 0, 0, 0, 0, 0, 0, 1, 0, 0, 0, 0, 0, 0, 0, //
+    0, 0, 0, 0, 0, 0, 0, 0, 0, 0, 0, 0, 0, 0, 0, 0,
+];
+
+/// `SLOW` and `GONE` at time 258.
+const TWO: [u8; 160] = [
+    0x46, 0x4e, 0x42, 0x53, 0x4e, 0x41, 0x50, 0x31, 2, 0, 0, 0, 0, 0, 0, 0, //
+    2, 1, 0, 0, 0, 0, 0, 0, 0, 0, 0, 0, 0, 0, 0, 0, //
+    7, 0, 0, 0, 0, 0, 0, 0, 1, 0, 0, 0, 0, 0, 0, 0, //
+    0, 0, 0, 0, 0, 0, 0, 0, 0, 0, 0, 0, 0, 0, 0, 0, //
+    0, 0, 0, 0, 0, 0, 0, 0, 0xff, 0xff, 0xff, 0xff, 0xff, 0xff, 0xff, 0x1f, //
+    0, 0, 0, 0, 0, 0, 0, 0, 1, 0, 0, 0, 0, 0, 0, 0xe0, //
+    9, 0, 0, 0, 0, 0, 0, 0, 0xff, 0xff, 0xff, 0xff, 1, 0, 0, 0, //
+    0xff, 0xff, 0xff, 0xff, 0xff, 0, 0, 0, 0, 0, 0, 0, 0, 0, 0, 0, //
+    4, 3, 2, 1, 0, 0, 0, 0, 0xff, 0xff, 0xff, 0xff, 0xff, 0xff, 0xff, 0xff, //
+    0x19, 0xfc, 0xff, 0xff, 0xff, 0xff, 0xff, 0xff, 0, 0, 0, 0, 0, 0, 0, 0x80,
+];
+
+const EMPTY: [u8; 32] = [
+    0x46, 0x4e, 0x42, 0x53, 0x4e, 0x41, 0x50, 0x31, 0, 0, 0, 0, 0, 0, 0, 0, //
+    0, 0, 0, 0, 0, 0, 0, 0, 0, 0, 0, 0, 0, 0, 0, 0,
+];
+
+const FIRST: Body = Body {
+    id: 7,
+    mass: 3,
+    out: false,
+    at: At { x: 5, y: 5, z: 5 },
+    v: V3 { x: 1, y: 0, z: 0 },
+};
+
+/// A body at a corner of the box, with the greatest speeds.
+const SLOW: Body = Body {
+    id: 7,
+    mass: 1,
+    out: false,
+    at: At { x: 0, y: 0, z: 0 },
+    v: V3 {
+        x: 2305843009213693951,
+        y: 0,
+        z: -2305843009213693951,
+    },
+};
+
+/// A body that has left the box, and is faster.
+const GONE: Body = Body {
+    id: 9,
+    mass: 4294967295,
+    out: true,
+    at: At {
+        x: 1099511627775,
+        y: 0,
+        z: 16909060,
+    },
+    v: V3 {
+        x: -1,
+        y: -999,
+        z: -9223372036854775808,
+    },
+};
+
+/// Writes `SLOW` and `GONE` at time 258.
+fn write_two(host: &mut MemoryHost) -> Result<u64, HostError> {
+    let filling = Fresh::new(FILE, 2, 258).begin(host)?;
+    let filling = filling.add(host, &SLOW)?;
+    let filling = filling.add(host, &GONE)?;
+    let closed = filling.close(host)?;
+    Ok(closed.file())
+}
+
+/// The bodies of the whole file.
+fn read_list(alloc: Global, host: &mut MemoryHost) -> Result<Vec<Body>, SnapError> {
+    let mut reader = SnapReader::begin(host, FILE)?;
+    let mut bodies = Vec::new(alloc);
+    for _ in 0..reader.count() {
+        let Some(body) = reader.next(host)? else {
+            return Err(SnapError::NoMemory);
+        };
+        if bodies.push(body).is_err() {
+            return Err(SnapError::NoMemory);
+        }
+    }
+    match reader.next(host)? {
+        None => Ok(bodies),
+        Some(_) => Err(SnapError::NoMemory),
+    }
+}
+
+/// How many bodies are read of a file of these bytes.
+fn reads_as(alloc: Global, bytes: &[u8]) -> Result<Result<usize, SnapError>, Fail> {
+    let mut host = MemoryHost::new(alloc);
+    host.with_file(FILE, bytes)?;
+    Ok(read_list(alloc, &mut host).map(|bodies| bodies.len()))
+}
+
+#[test]
+fn reads_bytes(rt: HostRuntime) -> Result<(), Fail> {
+    let mut host = MemoryHost::new(rt.alloc());
+    host.with_file(FILE, &ONE)?;
+    let reader = SnapReader::begin(&mut host, FILE)?;
+    assert_eq!(rt; (reader.count(), reader.time()), (1, 0));
+    assert_eq!(rt;
+        read_list(rt.alloc(), &mut host)?.as_slice(),
+        [FIRST].as_slice()
+    );
+    host.with_file(FILE, &TWO)?;
+    let reader = SnapReader::begin(&mut host, FILE)?;
+    assert_eq!(rt; (reader.count(), reader.time()), (2, 258));
+    assert_eq!(rt;
+        read_list(rt.alloc(), &mut host)?.as_slice(),
+        [SLOW, GONE].as_slice()
+    );
+    assert_eq!(rt; reads_as(rt.alloc(), &EMPTY)?, Ok(0));
+    Ok(())
+}
+
+#[test]
+fn writes_bytes(rt: HostRuntime) -> Result<(), Fail> {
+    let mut host = MemoryHost::new(rt.alloc());
+    assert_eq!(rt; write_two(&mut host)?, FILE);
+    assert_eq!(rt; host.bytes(FILE), TWO.as_slice());
+    let filling = Fresh::new(FILE + 1, 1, 0).begin(&mut host)?;
+    let filling = filling.add(&mut host, &FIRST)?;
+    assert_eq!(rt; filling.close(&mut host)?.file(), FILE + 1);
+    assert_eq!(rt; host.bytes(FILE + 1), ONE.as_slice());
+    let filling = Fresh::new(FILE + 2, 0, 0).begin(&mut host)?;
+    assert_eq!(rt; filling.close(&mut host)?.file(), FILE + 2);
+    assert_eq!(rt; host.bytes(FILE + 2), EMPTY.as_slice());
+    Ok(())
+}
+
+/// Changes of one byte that leave `TWO` no snapshot: the byte's place, and its value.
+const BAD: [(usize, u8); 20] = [
+    // The gate is shut, the name is another, the count is one more and too great, a reserved byte isn't 0.
+    (0, 0),
+    (7, 0x32),
+    (8, 3),
+    (11, 1),
+    (24, 1),
+    (31, 1),
+    // The ids fall, and are equal.
+    (96, 6),
+    (96, 7),
+    // The mass is 0. The flag is 2, and more.
+    (40, 0),
+    (44, 2),
+    (47, 1),
+    // A coordinate is 2^40, also of a body that has left the box.
+    (53, 1),
+    (61, 1),
+    (69, 1),
+    (125, 1),
+    // A speed in the box is above 2^61, is 2^61, is -2^61, and is below that.
+    (79, 0x20),
+    (87, 0x20),
+    (88, 0),
+    (95, 0x80),
+    (108, 0),
+];
+
+/// Changes of one byte that leave `TWO` a snapshot: ids of 0 and 2^64 - 2^56 + 9, and a speed of a body
+/// that is out.
+const GOOD: [(usize, u8); 3] = [(32, 0), (103, 0xff), (159, 0x20)];
+
+/// The place of the first of these changes of one byte with which `TWO` isn't read so.
+fn first_read_otherwise(
+    alloc: Global,
+    changes: &[(usize, u8)],
+    wanted: Result<usize, SnapError>,
+) -> Result<Option<usize>, Fail> {
+    for (at, byte) in changes {
+        let mut bytes = TWO;
+        if *at < bytes.len() {
+            bytes[*at] = *byte;
+        }
+        if reads_as(alloc, &bytes)? != wanted {
+            return Ok(Some(*at));
+        }
+    }
+    Ok(None)
+}
+
+/// The first of these lengths at which what is left of `TWO` is read.
+fn first_read_of_length(alloc: Global, lengths: &[usize]) -> Result<Option<usize>, Fail> {
+    for length in lengths {
+        let (front, _) = TWO.split_at((*length).min(160));
+        if reads_as(alloc, front)? != Err(SnapError::Bad) {
+            return Ok(Some(*length));
+        }
+    }
+    Ok(None)
+}
+
+#[test]
+fn refuses_bytes(rt: HostRuntime) -> Result<(), Fail> {
+    let bad = Err(SnapError::Bad);
+    assert_eq!(rt; first_read_otherwise(rt.alloc(), &BAD, bad)?, None);
+    assert_eq!(rt; first_read_otherwise(rt.alloc(), &GOOD, Ok(2))?, None);
+    assert_eq!(rt;
+        first_read_of_length(rt.alloc(), &[0, 1, 31, 32, 33, 95, 96, 159])?,
+        None
+    );
+    assert_eq!(rt; first_read_of_length(rt.alloc(), &[160])?, Some(160));
+    let mut longer = [0; 33];
+    longer[..32].copy_from_slice(&EMPTY);
+    assert_eq!(rt; reads_as(rt.alloc(), &longer)?, bad);
+    Ok(())
+}
+
+#[test]
+fn looks_at_a_file(rt: HostRuntime) -> Result<(), Fail> {
+    let mut host = MemoryHost::new(rt.alloc());
+    host.with_file(FILE, &ONE)?;
+    assert_eq!(rt; snap_finished(&mut host, FILE, 1)?, true);
+    assert_eq!(rt; snap_finished(&mut host, FILE, 0)?, false);
+    assert_eq!(rt; snap_finished(&mut host, FILE + 1, 0)?, false);
+    let mut shut = ONE;
+    shut[0] = 0;
+    host.with_file(FILE, &shut)?;
+    assert_eq!(rt; snap_finished(&mut host, FILE, 1)?, false);
+    Ok(())
+}
+
+/// A writer makes 10 calls for two bodies: cut, sync, write, sync, write; a write for each body; sync,
+/// write, sync.
+#[test]
+fn a_fault_leaves_the_file_unfinished(rt: HostRuntime) -> Result<(), Fail> {
+    for call in 1..11 {
+        let mut host = MemoryHost::new(rt.alloc());
+        host.with_file(FILE, &[1; 200])?;
+        host.fail_at(&[call])?;
+        assert_eq!(rt; write_two(&mut host), Err(HostError::Fault), "call {call}");
+        assert_eq!(rt; host.calls(), call);
+        assert_eq!(rt;
+            snap_finished(&mut host, FILE, 2)?,
+            call == 10,
+            "call {call}"
+        );
+        assert!(rt; call < 10 || host.bytes(FILE) == TWO.as_slice());
+    }
+    Ok(())
+}
+
+/// A reader makes 2 calls for the header, and one for each body. After a refusal it is as it was.
+#[test]
+fn a_refusal_leaves_the_reader(rt: HostRuntime) -> Result<(), Fail> {
+    let mut host = MemoryHost::new(rt.alloc());
+    host.with_file(FILE, &TWO)?;
+    for call in 1..5 {
+        host.fail_at(&[call])?;
+        assert!(rt; matches!(read_list(rt.alloc(), &mut host), Err(SnapError::Fault)));
+    }
+    host.fail_at(&[3])?;
+    let mut reader = SnapReader::begin(&mut host, FILE)?;
+    assert_eq!(rt; reader.next(&mut host), Err(SnapError::Fault));
+    assert_eq!(rt; reader.next(&mut host)?, Some(SLOW));
+    host.with_file(FILE, &ONE)?;
+    assert_eq!(rt; reader.next(&mut host), Err(SnapError::Bad));
+    host.with_file(FILE, &TWO)?;
+    assert_eq!(rt; reader.next(&mut host)?, Some(GONE));
+    Ok(())
+}
