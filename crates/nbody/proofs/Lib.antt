@@ -1,0 +1,10 @@
+mod Digits
+mod WordLists
+mod Ids
+mod Reading
+mod Writing
+mod Ticks
+mod Taking
+mod Causes
+mod Runs
+mod Statuses

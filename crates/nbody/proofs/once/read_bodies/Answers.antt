@@ -1,0 +1,32 @@
+use Rattle.std.proofs.Common.{◌≡◌, List, [], ◌∷◌, ◌++◌, rules, arith, ap, Err, subst, sym, IsTrue, ◌∙◌}
+use Rattle.std.proofs.lemmas.Grind.{common_steps}
+use Rattle.nb_model.specs.declared.body.Body.{Body}
+use Rattle.nb_format.specs.declared.snap_error.SnapError.TheVariants.{Bad}
+use Rattle.nb_format.specs.Reader.{file_of, MayFollow, IsBehind}
+use Rattle.nbody.specs.Once.{init_file}
+use Rattle.nbody.proofs.Reading.{HasGiven, HasGiven-more, IsFrontOf-same, not_ended, IsNoSnapshot-refused, file-same}
+use Rattle.nbody.proofs.once.read_bodies.Goals as goal
+
+pub returns-in_err-body-clause-bad : goal.returns-in_err-body-clause-bad
+returns-in_err-body-clause-bad g c is_bad tells has =
+    let kept = c.loop-bodies.invariant in
+    let bad : c.in_err-body.field-0.0 ≡ Bad = search rules in
+    IsNoSnapshot-refused ((g.H.Host.contents c.loop-bodies.host).file (file_of c.loop-bodies.reader)) (file-same kept.same (kept.given.file ∙ c.requires.file)) kept.given tells has (λ e. let h = c.in_err-body.ensures.end.1 e in cc) (λ read front. c.in_err-body.ensures.bad _ _ (subst IsTrue (sym kept.told) tells) read front (ap Err bad))
+
+pub loop-bodies-preserved : goal.loop-bodies-preserved
+loop-bodies-preserved g c =
+    let kept = c.loop-bodies.invariant in
+    let body = c.in-Some.body in
+    let items : c.push.new.self.items ≡ c.loop-bodies.bodies.items ++ body ∷ [] = grind (arith, common_steps) in
+    let follows : MayFollow c.loop-bodies.reader body = rw c.in-Some.is at c.in_ok-body.ensures.follows in
+    let behind : IsBehind body c.loop-bodies.reader c.next.new.self = rw c.in-Some.is at c.in_ok-body.ensures.moved in
+    let more = HasGiven-more kept.given (λ e. not_ended c.in-Some.is (c.in_ok-body.ensures.end.1 e)) follows behind (λ told read.
+    let next = c.in_ok-body.ensures.body _ _ (subst IsTrue (sym kept.told) told) read (IsFrontOf-same _ (sym (file-same kept.same (kept.given.file ∙ c.requires.file)))) in
+    rw c.in-Some.is at next) in
+    record {
+      given = let P : List Body → Type 0 = λ bodies. HasGiven (g.H.Host.tells c.args.host.now) ((g.H.Host.contents c.args.host.now).file init_file) c.args.reader c.next.new.self bodies in subst P (sym items) more;
+      same = c.next.ensures.same ∙ kept.same;
+      told = c.next.ensures.told ∙ kept.told;
+      faults = omega arith;
+      refused = c.next.ensures.refused ∙ kept.refused;
+    }

@@ -1,0 +1,8 @@
+pub mod Words
+pub mod Lines
+pub mod Refusal
+pub mod Once
+pub mod Done
+pub mod Answer
+pub mod Folder
+pub mod Names
