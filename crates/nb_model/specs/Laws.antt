@@ -1,14 +1,16 @@
 -- What the laws say of the definitions.
-use Rattle.std.specs.Prelude.{◌≡◌, ◌≢◌, ℕ, ◌+◌, ◌<◌, ◌≤◌, true, false, ◌⊎◌, List, [], length, map}
+use Rattle.std.specs.Prelude.{◌≡◌, ◌≢◌, ℕ, ◌+◌, ◌<◌, ◌≤◌, true, false, ◌⊎◌, List, [], length, map, All}
 use Rattle.nb_model.specs.declared.body.At.{At}
 use Rattle.nb_model.specs.declared.body.Body.{Body}
 use Rattle.nb_model.specs.declared.params.Params.{Params}
+use Rattle.nb_model.specs.declared.way.Way.{Way}
+use Rattle.nb_model.specs.declared.way.Way.TheVariants.{Forward, Back}
 use Rattle.nb_model.specs.Limits.{deepest_level}
 use Rattle.nb_model.specs.Vector.{zero_vector, vector_sum}
 use Rattle.nb_model.specs.Octree.{in_octant, total_mass, centre_of_mass}
 use Rattle.nb_model.specs.Gravity.{pull, is_accepted, direct_sum, octants, force_on}
-use Rattle.nb_model.specs.Leapfrog.{forward_step}
-use Rattle.nb_model.specs.Valid.{AreInRange, IsValidBodies}
+use Rattle.nb_model.specs.Leapfrog.{step, escaped_count}
+use Rattle.nb_model.specs.Valid.{AreInRange, IsValidBody, IsValidBodies}
 
 -- The force of the bodies of a cell, by cases, the first that applies: no body gives nothing; an accepted cell gives one
 -- pull; a leaf, which has at most `leaf` bodies or is at the deepest level, gives what its bodies give one by one; and
@@ -23,6 +25,14 @@ pub record IsForceByCases (params : Params) (p : At) (level : ℕ) (bodies : Lis
 abbrev pub ForceIsByCases : Type 0
 ForceIsByCases = (params : Params) (p : At) (level : ℕ) (bodies : List Body) → level ≤ deepest_level → IsForceByCases params p level bodies
 
--- one tick forward makes a valid list of a valid list
-abbrev pub ForwardStepIsValid : Type 0
-ForwardStepIsValid = (params : Params) (bodies : List Body) → AreInRange params → IsValidBodies params bodies → IsValidBodies params (forward_step params bodies)
+-- one tick, forward or back, makes a valid list of a valid list
+abbrev pub StepIsValid : Type 0
+StepIsValid = (params : Params) (way : Way) (bodies : List Body) → AreInRange params → IsValidBodies params bodies → IsValidBodies params (step params way bodies)
+
+abbrev pub opposite : Way → Way
+opposite Forward = Back
+opposite Back = Forward
+
+-- A tick in which no body leaves the box is undone by a tick the other way.
+abbrev pub StepIsUndone : Type 0
+StepIsUndone = (params : Params) (way : Way) (bodies : List Body) → All IsValidBody bodies → escaped_count (step params way bodies) ≡ escaped_count bodies → step params (opposite way) (step params way bodies) ≡ bodies

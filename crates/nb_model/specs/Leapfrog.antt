@@ -1,11 +1,14 @@
--- One tick: a half kick, a whole drift, a half kick.
-use Rattle.std.specs.Prelude.{ℕ, zero, suc, Bool, true, ◌&&◌, not, if◌then◌else◌, List, filter, count_by, map, pos, ℤ, int_le, int_lt, unsigned_abs}
+-- One tick, forward in time or back: a half kick, a whole drift, a half kick. Forward, velocities gain their half kicks and
+-- positions gain their velocities. Back, they lose them, in the reverse order, which is again a kick, a drift and a kick.
+use Rattle.std.specs.Prelude.{ℕ, Bool, true, ◌&&◌, not, if◌then◌else◌, List, [], ◌∷◌, filter, count_by, map, pos, ◌+ℤ◌, ◌-ℤ◌, ℤ, int_le, int_lt, unsigned_abs}
 use Rattle.nb_model.specs.declared.body.At.{At}
 use Rattle.nb_model.specs.declared.body.V3.{V3}
 use Rattle.nb_model.specs.declared.body.Body.{Body}
 use Rattle.nb_model.specs.declared.params.Params.{Params}
+use Rattle.nb_model.specs.declared.way.Way.{Way}
+use Rattle.nb_model.specs.declared.way.Way.TheVariants.{Forward, Back}
 use Rattle.nb_model.specs.Limits.{box_side}
-use Rattle.nb_model.specs.Vector.{zero_vector, plus}
+use Rattle.nb_model.specs.Vector.{zero_vector}
 use Rattle.nb_model.specs.Gravity.{force_on}
 
 -- the bodies that haven't left the box, in their order
@@ -21,12 +24,21 @@ escaped_count bodies = count_by (λ b. b.out) bodies
 abbrev pub half_kick : Params → List Body → Body → V3
 half_kick params bodies b = if b.out then zero_vector else force_on params b.at 0 (in_box bodies)
 
-abbrev pub accelerate : V3 → Body → Body
-accelerate k b = record b { v = plus b.v k }
+-- what becomes of one axis by a change: forward it gains it, and back it loses it
+abbrev pub changed_along : Way → ℤ → ℤ → ℤ
+changed_along Forward c change = c +ℤ change
+changed_along Back c change = c -ℤ change
 
--- each velocity gains its half kick
-abbrev pub kick : Params → List Body → List Body
-kick params bodies = map (λ b. accelerate (half_kick params bodies b) b) bodies
+abbrev pub changed : Way → V3 → V3 → V3
+changed way v change =
+    record { x = changed_along way v.x change.x; y = changed_along way v.y change.y; z = changed_along way v.z change.z }
+
+abbrev pub accelerate : Way → V3 → Body → Body
+accelerate way k b = record b { v = changed way b.v k }
+
+-- each velocity gains its half kick, or loses it
+abbrev pub kick : Params → Way → List Body → List Body
+kick params way bodies = map (λ b. accelerate way (half_kick params bodies b) b) bodies
 
 -- whether a coordinate is one of the box
 abbrev pub is_coordinate : ℤ → Bool
@@ -42,22 +54,33 @@ vector_of p = record { x = pos p.x; y = pos p.y; z = pos p.z }
 abbrev pub position_of : V3 → At
 position_of r = record { x = unsigned_abs r.x; y = unsigned_abs r.y; z = unsigned_abs r.z }
 
+-- where its velocity brings a body
+abbrev pub destination : Way → Body → V3
+destination way b = changed way (vector_of b.at) b.v
+
 -- A body in the box moves by its velocity. Where that leads out of the box it has left: it keeps its position, and its
 -- velocity.
-abbrev pub drift_body : Body → Body
-drift_body b =
+abbrev pub drift_body : Way → Body → Body
+drift_body way b =
     if b.out then b
-    else (if is_position (plus (vector_of b.at) b.v) then record b { at = position_of (plus (vector_of b.at) b.v) }
-    else record b { out = true })
+    else (if is_position (destination way b) then record b { at = position_of (destination way b) } else record b { out = true })
 
-abbrev pub drift : List Body → List Body
-drift bodies = map drift_body bodies
+abbrev pub drift : Way → List Body → List Body
+drift way bodies = map (drift_body way) bodies
 
--- one tick forward
+-- one tick
+abbrev pub step : Params → Way → List Body → List Body
+step params way bodies = kick params way (drift way (kick params way bodies))
+
+-- one tick forward: velocities gain their half kicks, positions their velocities, and velocities their half kicks
 abbrev pub forward_step : Params → List Body → List Body
-forward_step params bodies = kick params (drift (kick params bodies))
+forward_step params bodies = step params Forward bodies
 
--- so many ticks forward
-abbrev pub forward_steps : Params → ℕ → List Body → List Body
-forward_steps params zero bodies = bodies
-forward_steps params (suc n) bodies = forward_steps params n (forward_step params bodies)
+-- one tick back: velocities lose their half kicks, positions their velocities, and velocities their half kicks
+abbrev pub backward_step : Params → List Body → List Body
+backward_step params bodies = step params Back bodies
+
+-- a tick in each of these directions, one after the other
+abbrev pub steps : Params → List Way → List Body → List Body
+steps params [] bodies = bodies
+steps params (way ∷ ways) bodies = steps params ways (step params way bodies)

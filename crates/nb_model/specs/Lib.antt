@@ -4,5 +4,6 @@ pub mod Root
 pub mod Octree
 pub mod Gravity
 pub mod Leapfrog
+pub mod Legs
 pub mod Valid
 pub mod Laws

@@ -25,3 +25,7 @@ speed_limit = 2 ^ 61
 -- A list has at most so many bodies.
 abbrev pub most_bodies : ℕ
 most_bodies = 2 ^ 24
+
+-- A run has at most so many ticks.
+abbrev pub most_ticks : ℕ
+most_ticks = 2 ^ 40

@@ -1,11 +1,11 @@
 -- What the parameters, a body and a list of bodies have to be.
-use Rattle.std.specs.Prelude.{◌≡◌, ℕ, ◌*◌, ◌^◌, ◌<◌, ◌≤◌, false, List, length, map, All, unsigned_abs}
+use Rattle.std.specs.Prelude.{◌≡◌, ℕ, ◌*◌, ◌<◌, ◌≤◌, false, List, length, map, All, unsigned_abs}
 use Rattle.std.specs.List.Sorted.{IsStrictlyIncreasing}
 use Rattle.nb_model.specs.declared.body.At.{At}
 use Rattle.nb_model.specs.declared.body.V3.{V3}
 use Rattle.nb_model.specs.declared.body.Body.{Body}
 use Rattle.nb_model.specs.declared.params.Params.{Params}
-use Rattle.nb_model.specs.Limits.{box_side, mass_limit, weight_limit, speed_limit, most_bodies}
+use Rattle.nb_model.specs.Limits.{box_side, mass_limit, weight_limit, speed_limit, most_bodies, most_ticks}
 use Rattle.nb_model.specs.Octree.{total_mass}
 
 -- the range of each parameter
@@ -19,7 +19,7 @@ pub record AreInRange (params : Params) : Type 0 where
   pub some_leaf : 1 ≤ params.leaf
   pub leaf : params.leaf ≤ 32
   pub some_every : 1 ≤ params.every
-  pub every : params.every ≤ 2 ^ 40
+  pub every : params.every ≤ most_ticks
 
 pub record IsInBox (p : At) : Type 0 where
   pub x : p.x < box_side

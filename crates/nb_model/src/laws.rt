@@ -3,7 +3,7 @@
 
 ghost use Rattle.std.specs.Prelude.{ℕ};
 ghost use Rattle.nb_model.specs.Root.{IsIntegerRoot, integer_root};
-ghost use Rattle.nb_model.specs.Laws.{ForceIsByCases, ForwardStepIsValid};
+ghost use Rattle.nb_model.specs.Laws.{ForceIsByCases, StepIsValid};
 
 /// The integer root is the greatest number whose square is at most the given one.
 pub fn law_integer_root()
@@ -15,7 +15,7 @@ pub fn law_force_on()
     ensures { ForceIsByCases }
 {}
 
-/// One tick forward makes a valid list of a valid list.
-pub fn law_forward_step()
-    ensures { ForwardStepIsValid }
+/// One tick, forward or back, makes a valid list of a valid list.
+pub fn law_step()
+    ensures { StepIsValid }
 {}

@@ -1,7 +1,7 @@
 //! The bodies and the parameters of a run, and the gravity that moves them.
 //!
 //! The definitions stand in `specs/`, over lists of bodies: `Limits`, `Vector`, `Root`, `Octree`,
-//! `Gravity`, `Leapfrog` and `Valid`, in this order. They know no keys, pages or files. `laws` has what is
+//! `Gravity`, `Leapfrog`, `Legs` and `Valid`, in this order. They know no keys, pages or files. `laws` has what is
 //! proved of them.
 #![tactic(auto)]
 
@@ -10,9 +10,13 @@ mod laws;
 mod limits;
 mod memory;
 mod params;
+mod way;
 
 pub use body::{At, Body, V3};
-pub use laws::{law_force_on, law_forward_step, law_integer_root};
-pub use limits::{BOX_BITS, BOX_SIDE, DEEPEST_LEVEL, MOST_BODIES, SPEED_LIMIT, WEIGHT_LIMIT};
+pub use laws::{law_force_on, law_integer_root, law_step};
+pub use limits::{
+    BOX_BITS, BOX_SIDE, DEEPEST_LEVEL, MOST_BODIES, MOST_TICKS, SPEED_LIMIT, WEIGHT_LIMIT,
+};
 pub use memory::NoMemory;
 pub use params::Params;
+pub use way::Way;

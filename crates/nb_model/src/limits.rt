@@ -17,3 +17,6 @@ pub const SPEED_LIMIT: u64 = 1 << 61;
 
 /// The most bodies of a list.
 pub const MOST_BODIES: u64 = 1 << 24;
+
+/// The most ticks of a run.
+pub const MOST_TICKS: u64 = 1 << 40;

@@ -1,0 +1,5 @@
+use Rattle.nb_model.proofs.Steps.{step_valid}
+use Rattle.nb_model.proofs.laws.law_step.Goals as goal
+
+pub returns : goal.returns
+returns c = λ params way bodies _ valid. step_valid params way bodies valid
