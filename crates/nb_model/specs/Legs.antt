@@ -32,7 +32,7 @@ abbrev pub is_forward : Way → Bool
 is_forward Forward = true
 is_forward Back = false
 
--- the time after ticks in these directions
+-- the time after ticks in these directions, none of which goes back from time 0
 abbrev pub time_by : ℕ → List Way → ℕ
 time_by begin ways = (begin + count_by is_forward ways) - count_by (λ way. not (is_forward way)) ways
 
@@ -44,7 +44,7 @@ time_after begin legs k = time_by begin (take k (directions begin legs))
 abbrev pub state_after : Params → List Body → ℕ → List ℕ → ℕ → List Body
 state_after params bodies begin legs k = steps params (take k (directions begin legs)) bodies
 
--- The first k ticks are exactly those of the first legs, to the end of one of them.
+-- The first k ticks are exactly those of the first legs: of none at k = 0, and else to the end of one of them.
 abbrev pub EndsLeg : ℕ → List ℕ → ℕ → Type 0
 EndsLeg begin legs k = (n : ℕ) × (k ≡ length (directions begin (take n legs)))
 

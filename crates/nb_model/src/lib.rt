@@ -1,8 +1,8 @@
 //! The bodies and the parameters of a run, and the gravity that moves them.
 //!
 //! The definitions stand in `specs/`, over lists of bodies: `Limits`, `Vector`, `Root`, `Octree`,
-//! `Gravity`, `Leapfrog`, `Legs` and `Valid`, in this order. They know no keys, pages or files. `laws` has what is
-//! proved of them.
+//! `Gravity`, `Leapfrog`, `Legs` and `Valid`, in this order. They know no keys, pages or files. `laws` has
+//! what is proved of them.
 #![tactic(auto)]
 
 mod body;
