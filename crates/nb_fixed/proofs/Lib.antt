@@ -1,4 +1,5 @@
 mod Inverses
 mod Karatsuba
+mod OneOctant
 mod Shifts
 mod Table

@@ -1,12 +1,13 @@
 //! The cells of a list of bodies: which body lies in which, and the mass of one with its centre.
 
-ghost use Rattle.std.specs.Prelude.{◌≡◌, ◌≢◌, [], length, All, IfOk, ◌<◌, ◌≤◌};
+ghost use Rattle.std.specs.Prelude.{◌≡◌, ◌≢◌, ◌==◌, ℕ, [], length, map, All, IfOk, ◌<◌, ◌≤◌};
+ghost use Rattle.std.specs.List.{list_all};
 ghost use Rattle.nb_model.specs.Limits.{deepest_level, most_bodies};
 ghost use Rattle.nb_model.specs.Octree.{half_at, octant_at, in_octant, is_same_cell, total_mass, centre_of_mass};
 ghost use Rattle.nb_model.specs.Valid.{IsInBox, IsValidBody};
 
 use nb_model::{At, BOX_BITS, Body, NoMemory};
-use std::alloc::Global;
+use std::alloc::{AllocError, Global};
 
 /// Whether two positions lie in one cell at this level.
 pub fn is_same_cell(level: u32, first: &At, second: &At) -> bool
@@ -28,31 +29,56 @@ fn half_at(level: u32, coordinate: u64) -> u64
     (coordinate >> (BOX_BITS - 1 - level)) % 2
 }
 
-fn octant_at(level: u32, at: &At) -> u64
+/// The octant of a position within its cell at this level, from 0 to 7.
+pub fn octant_at(level: u32, at: &At) -> u64
     requires { level < deepest_level }
-    ensures { result ≡ octant_at level at.now }
+    ensures value { result ≡ octant_at level at.now }
+    ensures bound { result < 8 }
 {
     4 * half_at(level, at.x) + 2 * half_at(level, at.y) + half_at(level, at.z)
 }
 
-/// The bodies of a cell at this level that lie in one of its octants, in their order.
+/// The octant of each body of a cell at this level.
+pub fn octants_of(alloc: Global, level: u32, bodies: &[Body]) -> Result<Vec<u8>, NoMemory>
+    requires { level < deepest_level }
+    ensures { IfOk result (λ octants. octants.items ≡ map (λ b. octant_at level b.at) bodies.now) }
+{
+    bodies
+        .iter()
+        .map(|body| octant_at(level, &body.at) as u8)
+        .collect(alloc)
+        .map_err(|_: AllocError| NoMemory)
+}
+
+/// The bodies of a cell that lie in one of its octants, in their order, where the octant of each is known.
 pub fn in_octant(
     alloc: Global,
-    level: u32,
     bodies: &[Body],
-    octant: u64,
+    octants: &[u8],
+    octant: u8,
 ) -> Result<Vec<Body>, NoMemory>
-    requires { level < deepest_level }
-    ensures { IfOk result (λ part. part.items ≡ in_octant level bodies.now octant) }
+    requires { length octants.now ≡ length bodies.now }
+    ensures { (level : ℕ) → octants.now ≡ map (λ b. octant_at level b.at) bodies.now
+        → IfOk result (λ part. part.items ≡ in_octant level bodies.now octant) }
 {
     // Room for all of them at once, so that no part grows while it is filled.
     let mut part = Vec::with_capacity(alloc, bodies.len())?;
-    for body in bodies {
-        if octant_at(level, &body.at) == octant {
-            part.push(*body)?;
+    for i in 0..bodies.len() {
+        if octants[i] == octant {
+            part.push(bodies[i])?;
         }
     }
     Ok(part)
+}
+
+/// Whether all bodies of a cell at this level lie in this one of its octants.
+pub fn lie_in_octant(level: u32, bodies: &[Body], octant: u64) -> bool
+    requires { level < deepest_level }
+    ensures { result ≡ list_all (λ b. octant_at level b.at == octant) bodies.now }
+{
+    bodies
+        .iter()
+        .all(|body| octant_at(level, &body.at) == octant)
 }
 
 /// The mass of a cell and its centre of mass, rounded down on each axis.

@@ -1,15 +1,15 @@
-//! The forward tick of a list of bodies: a half kick, a whole drift, a half kick.
+//! One tick of a list of bodies, forward or back: a half kick, a whole drift, a half kick.
 
 ghost use Rattle.std.specs.Prelude.{◌≡◌, ◌*◌, ◌<◌, ◌≤◌, length, All, IfOk, OnOk, OnErr, true, if◌then◌else◌};
 ghost use Rattle.nb_model.specs.Limits.{weight_limit, speed_limit, most_bodies};
-ghost use Rattle.nb_model.specs.Vector.{zero_vector, plus};
+ghost use Rattle.nb_model.specs.Vector.{zero_vector};
 ghost use Rattle.nb_model.specs.Gravity.{force_on};
 ghost use Rattle.nb_model.specs.Octree.{total_mass};
-ghost use Rattle.nb_model.specs.Leapfrog.{in_box, escaped_count, accelerate, kick, is_coordinate, is_position, position_of, vector_of, drift_body, drift, forward_step};
+ghost use Rattle.nb_model.specs.Leapfrog.{in_box, escaped_count, changed, accelerate, kick, is_coordinate, is_position, position_of, vector_of, destination, drift_body, drift, step};
 ghost use Rattle.nb_model.specs.Valid.{AreInRange, IsInBox, IsBelow, IsValidBody, IsKickedBody, IsValidBodies};
 
 use crate::recursion::{force_on, plus};
-use nb_model::{At, BOX_SIDE, Body, NoMemory, Params, V3};
+use nb_model::{At, BOX_SIDE, Body, NoMemory, Params, V3, Way};
 use std::alloc::{AllocError, Global};
 
 fn in_box(alloc: Global, bodies: &[Body]) -> Result<Vec<Body>, NoMemory>
@@ -23,10 +23,27 @@ fn in_box(alloc: Global, bodies: &[Body]) -> Result<Vec<Body>, NoMemory>
         .map_err(|_: AllocError| NoMemory)
 }
 
+/// What becomes of a vector by a change: forward it gains it, and back it loses it.
+fn changed(way: Way, vector: V3, change: V3) -> V3
+    requires vector { IsBelow (2 * speed_limit) vector }
+    requires change { IsBelow (2 * speed_limit) change }
+    ensures { result ≡ changed way vector change }
+{
+    match way {
+        Way::Forward => plus(vector, change),
+        Way::Back => V3 {
+            x: vector.x - change.x,
+            y: vector.y - change.y,
+            z: vector.z - change.z,
+        },
+    }
+}
+
 /// A body of a valid list after its half kick, where `inside` are the list's bodies in the box.
 fn kicked_body(
     alloc: Global,
     params: &Params,
+    way: Way,
     inside: &[Body],
     body: Body,
 ) -> Result<Body, NoMemory>
@@ -35,7 +52,7 @@ fn kicked_body(
     requires count { length inside.now ≤ most_bodies }
     requires weight { params.now.grav * total_mass inside.now < weight_limit }
     requires body { IsValidBody body }
-    ensures { IfOk result (λ kicked. kicked ≡ accelerate
+    ensures { IfOk result (λ kicked. kicked ≡ accelerate way
         (if body.out then zero_vector else force_on params.now body.at 0 inside.now) body) }
 {
     if body.out {
@@ -43,21 +60,26 @@ fn kicked_body(
     }
     let force = force_on(alloc, params, &body.at, 0, inside)?;
     Ok(Body {
-        v: plus(body.v, force),
+        v: changed(way, body.v, force),
         ..body
     })
 }
 
 /// The bodies of a valid list after their half kicks.
-pub fn kick(alloc: Global, params: &Params, bodies: &[Body]) -> Result<Vec<Body>, NoMemory>
+pub fn kick(
+    alloc: Global,
+    params: &Params,
+    way: Way,
+    bodies: &[Body],
+) -> Result<Vec<Body>, NoMemory>
     requires params { AreInRange params.now }
     requires valid { IsValidBodies params.now bodies.now }
-    ensures { IfOk result (λ kicked. kicked.items ≡ kick params.now bodies.now) }
+    ensures { IfOk result (λ kicked. kicked.items ≡ kick params.now way bodies.now) }
 {
     let inside = in_box(alloc, bodies)?;
     let mut kicked = Vec::with_capacity(alloc, bodies.len())?;
     for body in bodies {
-        kicked.push(kicked_body(alloc, params, &inside, *body)?)?;
+        kicked.push(kicked_body(alloc, params, way, &inside, *body)?)?;
     }
     Ok(kicked)
 }
@@ -85,28 +107,36 @@ fn position_of(r: &V3) -> At
     }
 }
 
-/// Where a body in the box is after it has moved by its velocity.
-fn destination(body: &Body) -> V3
-    requires at { IsInBox body.now.at }
-    requires speed { IsBelow (2 * speed_limit) body.now.v }
-    ensures { result ≡ plus (vector_of body.now.at) body.now.v }
+fn vector_of(at: &At) -> V3
+    requires { IsInBox at.now }
+    ensures value { result ≡ vector_of at.now }
+    ensures bound { IsBelow (2 * speed_limit) result }
 {
     V3 {
-        x: body.at.x as i64 + body.v.x,
-        y: body.at.y as i64 + body.v.y,
-        z: body.at.z as i64 + body.v.z,
+        x: at.x as i64,
+        y: at.y as i64,
+        z: at.z as i64,
     }
 }
 
+/// Where its velocity brings a body in the box.
+fn destination(way: Way, body: &Body) -> V3
+    requires at { IsInBox body.now.at }
+    requires speed { IsBelow (2 * speed_limit) body.now.v }
+    ensures { result ≡ destination way body.now }
+{
+    changed(way, vector_of(&body.at), body.v)
+}
+
 /// A body after its drift: moved, or out where it would leave the box.
-fn drift_body(body: Body) -> Body
+fn drift_body(way: Way, body: Body) -> Body
     requires { IsKickedBody body }
-    ensures { result ≡ drift_body body }
+    ensures { result ≡ drift_body way body }
 {
     if body.out {
         return body;
     }
-    let there = destination(&body);
+    let there = destination(way, &body);
     if is_position(&there) {
         Body {
             at: position_of(&there),
@@ -117,28 +147,33 @@ fn drift_body(body: Body) -> Body
     }
 }
 
-fn drift(bodies: &mut [Body])
+fn drift(way: Way, bodies: &mut [Body])
     requires { All IsKickedBody bodies.old }
-    ensures { bodies.new ≡ drift bodies.old }
+    ensures { bodies.new ≡ drift way bodies.old }
 {
     for body in bodies.iter_mut() {
-        *body = drift_body(*body);
+        *body = drift_body(way, *body);
     }
 }
 
-/// One tick forward: the list becomes the definition's, and the answer is how many of its bodies have left
-/// the box. Where memory is wanting the list is as it was.
-pub fn plain_tick(alloc: Global, params: &Params, bodies: &mut Vec<Body>) -> Result<u64, NoMemory>
+/// One tick, forward or back: the list becomes the definition's, and the answer is how many of its bodies
+/// have left the box. Where memory is wanting the list is as it was.
+pub fn plain_tick(
+    alloc: Global,
+    params: &Params,
+    bodies: &mut Vec<Body>,
+    way: Way,
+) -> Result<u64, NoMemory>
     requires params { AreInRange params.now }
     requires valid { IsValidBodies params.now bodies.old.items }
-    ensures tick { OnOk result (bodies.new.items ≡ forward_step params.now bodies.old.items) }
+    ensures tick { OnOk result (bodies.new.items ≡ step params.now way bodies.old.items) }
     ensures stays_valid { OnOk result (IsValidBodies params.now bodies.new.items) }
     ensures escaped { IfOk result (λ count. count ≡ escaped_count bodies.new.items) }
     ensures refused { OnErr result (bodies.new.items ≡ bodies.old.items) }
 {
-    let mut drifted = kick(alloc, params, bodies)?;
-    drift(&mut drifted);
-    let kicked = kick(alloc, params, &drifted)?;
+    let mut drifted = kick(alloc, params, way, bodies)?;
+    drift(way, &mut drifted);
+    let kicked = kick(alloc, params, way, &drifted)?;
     let escaped = kicked.iter().filter(|body| body.out).count() as u64;
     *bodies = kicked;
     Ok(escaped)

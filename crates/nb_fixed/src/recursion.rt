@@ -7,7 +7,7 @@ ghost use Rattle.nb_model.specs.Octree.{total_mass};
 ghost use Rattle.nb_model.specs.Gravity.{direct_sum, force_on};
 ghost use Rattle.nb_model.specs.Valid.{AreInRange, IsInBox, IsBelow, IsValidBody};
 
-use crate::cell::{in_octant, is_same_cell, mass_and_centre};
+use crate::cell::{in_octant, is_same_cell, lie_in_octant, mass_and_centre, octant_at, octants_of};
 use crate::monopole::pull;
 use crate::opening::opens;
 use nb_model::{At, Body, DEEPEST_LEVEL, NoMemory, Params, V3};
@@ -63,19 +63,29 @@ pub fn force_on(
         return Ok(ZERO);
     }
     let (mass, centre) = mass_and_centre(bodies);
-    let inside = is_same_cell(level, from, &bodies[0].at);
-    if !opens(params, from, level, &centre, inside) {
-        return Ok(pull(params, from, mass, &centre));
+    let mut level = level;
+    'down: loop {
+        let inside = is_same_cell(level, from, &bodies[0].at);
+        if !opens(params, from, level, &centre, inside) {
+            return Ok(pull(params, from, mass, &centre));
+        }
+        if level == DEEPEST_LEVEL {
+            return Ok(direct_sum(params, from, bodies));
+        }
+        if bodies.len() as u64 <= params.leaf {
+            return Ok(direct_sum(params, from, bodies));
+        }
+        let first = octant_at(level, &bodies[0].at);
+        if !lie_in_octant(level, bodies, first) {
+            break 'down;
+        }
+        // The bodies are those of this octant, and the other octants give nothing.
+        level += 1;
     }
-    if level == DEEPEST_LEVEL {
-        return Ok(direct_sum(params, from, bodies));
-    }
-    if bodies.len() as u64 <= params.leaf {
-        return Ok(direct_sum(params, from, bodies));
-    }
+    let octants = octants_of(alloc, level, bodies)?;
     let mut total = ZERO;
     for octant in 0..8 {
-        let part = in_octant(alloc, level, bodies, octant)?;
+        let part = in_octant(alloc, bodies, &octants, octant)?;
         total = plus(total, force_on(alloc, params, from, level + 1, &part)?);
     }
     Ok(total)

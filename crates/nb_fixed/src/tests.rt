@@ -9,7 +9,7 @@ ghost use Rattle.nb_model.specs.Valid.{AreInRange, IsInBox, IsBelow, IsValidBody
 use crate::cell::mass_and_centre;
 use crate::leapfrog::kick;
 use crate::{opens, plain_tick, root, trunc_div};
-use nb_model::{At, Body, Params, V3};
+use nb_model::{At, Body, Params, V3, Way};
 use std::alloc::Global;
 use std::process::Abort;
 use std::test::Fail;
@@ -45,6 +45,17 @@ fn body(id: u64, mass: u32, at: At, x: i64) -> Body {
         out: false,
         at,
         v: V3 { x, y: 0, z: 0 },
+    }
+}
+
+/// A position so far along the middle line of the x axis from the middle of the box.
+fn on_line(x: u64) -> At
+    requires { x < 2 ^ 20 }
+{
+    At {
+        x: HALF + x,
+        y: HALF,
+        z: HALF,
     }
 }
 
@@ -114,7 +125,7 @@ fn kicks(rt: &impl Abort, alloc: Global, params: &Params, bodies: &[Body]) -> Re
     requires { AreInRange params.now }
 {
     assert!(rt; are_valid(params, bodies));
-    let kicked = kick(alloc, params, bodies)?;
+    let kicked = kick(alloc, params, Way::Forward, bodies)?;
     let mut along = Vec::new(alloc);
     for body in &kicked {
         along.push(body.v.x)?;
@@ -125,28 +136,7 @@ fn kicks(rt: &impl Abort, alloc: Global, params: &Params, bodies: &[Body]) -> Re
 #[test]
 fn pulls_round_toward_zero(rt: HostRuntime) -> Result<(), Fail> {
     let alloc = rt.alloc();
-    let bodies = [
-        body(
-            1,
-            1,
-            At {
-                x: HALF,
-                y: HALF,
-                z: HALF,
-            },
-            0,
-        ),
-        body(
-            2,
-            1000,
-            At {
-                x: HALF + 1000,
-                y: HALF,
-                z: HALF,
-            },
-            0,
-        ),
-    ];
+    let bodies = [body(1, 1, on_line(0), 0), body(2, 1000, on_line(1000), 0)];
     let along = kicks(&rt, alloc, &params(1_000_000_000, 1, 2, 8), &bodies)?;
     assert_eq!(rt; along.as_slice(), [999_999, -999].as_slice());
     Ok(())
@@ -193,85 +183,63 @@ fn cells_are_taken_whole_or_opened(rt: HostRuntime) -> Result<(), Fail> {
 }
 
 #[test]
-fn a_tick_of_two_bodies(rt: HostRuntime) -> Result<(), Fail> {
+fn ticks_of_two_bodies(rt: HostRuntime) -> Result<(), Fail> {
     let params = params(1_000_000_000, 1, 2, 8);
-    let first = body(
-        1,
-        1,
-        At {
-            x: HALF,
-            y: HALF,
-            z: HALF,
-        },
-        0,
-    );
-    let second = body(
-        2,
-        1000,
-        At {
-            x: HALF + 1000,
-            y: HALF,
-            z: HALF,
-        },
-        0,
-    );
-    let mut bodies = [first, second].to_vec(rt.alloc())?;
-    assert!(rt; are_valid(&params, &bodies));
-    assert_eq!(rt; plain_tick(rt.alloc(), &params, &mut bodies)?, 0);
-    assert_eq!(rt; bodies.len(), 2);
-    assert_eq!(rt;
-        bodies[0],
-        body(
-            1,
-            1,
-            At {
-                x: HALF + 999_999,
-                y: HALF,
-                z: HALF
-            },
-            999_998
-        )
-    );
-    assert_eq!(rt;
-        bodies[1],
-        body(
-            2,
-            1000,
-            At {
-                x: HALF + 1,
-                y: HALF,
-                z: HALF
-            },
-            -999
-        )
-    );
+    let apart = [body(1, 1, on_line(0), 0), body(2, 1000, on_line(1000), 0)];
+    let crossed = [
+        body(1, 1, on_line(999_999), 999_998),
+        body(2, 1000, on_line(1), -999),
+    ];
+    let together = [body(1, 5, on_line(0), 0), body(2, 5, on_line(0), 0)];
+    let cases = [
+        (Way::Forward, apart, crossed, "they fall on each other"),
+        (Way::Back, crossed, apart, "the same, undone"),
+        (Way::Forward, together, together, "both in one leaf"),
+    ];
+    for (way, before, after, why) in cases {
+        let mut bodies = before.to_vec(rt.alloc())?;
+        assert!(rt; are_valid(&params, &bodies), "{why}");
+        assert_eq!(rt;
+            plain_tick(rt.alloc(), &params, &mut bodies, way)?,
+            0,
+            "{why}"
+        );
+        assert_eq!(rt; bodies.as_slice(), after.as_slice(), "{why}");
+    }
+    Ok(())
+}
+
+#[test]
+fn two_bodies_in_one_deepest_cell(rt: HostRuntime) -> Result<(), Fail> {
+    let params = params(1_000_000_000, 1, 2, 1);
+    let together = [body(1, 5, on_line(0), 0), body(2, 5, on_line(0), 0)];
+    for way in [Way::Forward, Way::Back] {
+        let mut bodies = together.to_vec(rt.alloc())?;
+        assert!(rt; are_valid(&params, &bodies));
+        assert_eq!(rt; plain_tick(rt.alloc(), &params, &mut bodies, way)?, 0);
+        assert_eq!(rt; bodies.as_slice(), together.as_slice());
+    }
     Ok(())
 }
 
 #[test]
 fn a_body_leaves_the_box(rt: HostRuntime) -> Result<(), Fail> {
     let params = params(1_000_000_000, 1, 2, 8);
-    let before = body(
-        7,
-        3,
-        At {
-            x: 2 * HALF - 1,
-            y: 0,
-            z: 0,
-        },
-        1,
-    );
-    let mut bodies = [before].to_vec(rt.alloc())?;
-    assert!(rt; are_valid(&params, &bodies));
-    assert_eq!(rt; plain_tick(rt.alloc(), &params, &mut bodies)?, 1);
-    assert_eq!(rt; bodies.len(), 1);
-    assert_eq!(rt;
-        bodies[0],
-        Body {
-            out: true,
-            ..before
-        }
-    );
+    for (x, way) in [(2 * HALF - 1, Way::Forward), (0, Way::Back)] {
+        let before = body(7, 3, At { x, y: 0, z: 0 }, 1);
+        let mut bodies = [before].to_vec(rt.alloc())?;
+        assert!(rt; are_valid(&params, &bodies));
+        assert_eq!(rt; plain_tick(rt.alloc(), &params, &mut bodies, way)?, 1);
+        assert_eq!(rt; bodies.len(), 1);
+        assert_eq!(rt;
+            bodies[0],
+            Body {
+                out: true,
+                ..before
+            },
+            "at {x}"
+        );
+    }
     Ok(())
 }
 

@@ -1,4 +1,4 @@
-use Rattle.std.proofs.Common.{ℕ, ◌+◌, ◌<◌, length, map, false, pos, arith}
+use Rattle.std.proofs.Common.{◌+◌, false, pos, arith}
 use Rattle.std.proofs.lemmas.List.{length-map, get_or-map}
 use Rattle.nb_model.specs.declared.body.Body.{Body}
 use Rattle.nb_fixed.proofs.tests.ids_rise.Goals as goal
