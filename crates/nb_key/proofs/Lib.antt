@@ -1,0 +1,5 @@
+pub mod Bits
+pub mod Spreads
+pub mod Levels
+pub mod Paths
+pub mod Ranges

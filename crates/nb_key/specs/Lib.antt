@@ -1,0 +1,2 @@
+pub mod Morton
+pub mod Spread
