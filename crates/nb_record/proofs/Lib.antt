@@ -1,0 +1,6 @@
+pub mod Writes
+pub mod Rows
+pub mod Adding
+pub mod Searching
+pub mod Sorting
+pub mod Checks

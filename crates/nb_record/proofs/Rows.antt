@@ -1,0 +1,191 @@
+-- A record says what was written into it.
+use Rattle.std.proofs.Common.{◌≡◌, ℕ, ◌+◌, ◌*◌, ◌^◌, ◌<◌, ◌≤◌, List, [], ◌∷◌, ◌++◌, length, Bool, true, false, cond, eqb, sym, ap, ◌∙◌, refl, arith, ℤ, pos, negsuc, FitsSigned, subst}
+use Rattle.std.specs.Int.{w64, cast_signed, cast_unsigned}
+use Rattle.std.specs.List.{flat_map}
+use Rattle.std.proofs.lemmas.Int.{to_z-of_z}
+use Rattle.std.proofs.lemmas.List.{append_assoc, length-append}
+use Rattle.nb_model.specs.declared.body.Body.{Body}
+use Rattle.nb_model.specs.Valid.{IsValidBody}
+use Rattle.nb_record.specs.declared.cell.Cell.{Cell}
+use Rattle.nb_record.specs.declared.sizes.TheConstants.{PAGE_SIZE, BODY_SIZE, CELL_SIZE, BODIES_PER_PAGE, CELLS_PER_PAGE}
+use Rattle.nb_record.specs.Fields.{word, short, signed_word, word_bytes, short_bytes, written}
+use Rattle.nb_record.specs.Pages.{page_count}
+use Rattle.nb_record.specs.Records.{body_of, body_bytes, IsBodyRecord, FitsBodyRecord, cell_of, cell_bytes, FitsCellRecord}
+use Rattle.nb_record.proofs.Writes.{length-word_bytes, length-short_bytes, word_first, short_first, word_past, short_past, written_twice}
+use Rattle.nb_record.proofs.Adding.{HasRoom}
+
+-- ---- eight words in a row
+
+-- the word after the first
+word_after_first : (n k : ℕ) (rest : List ℕ) → word (8 + k) (word_bytes n ++ rest) ≡ word k rest
+word_after_first n k rest = word_past (word_bytes n) rest 8 k (length-word_bytes n)
+
+length-row : (n : ℕ) (rest : List ℕ) → length (word_bytes n ++ rest) ≡ 8 + length rest
+length-row n rest = omega (arith, length-append (word_bytes n) rest, length-word_bytes n)
+
+pub row_length : (ws : List ℕ) → length (flat_map word_bytes ws) ≡ 8 * length ws
+row_length [] = omega arith
+row_length (w ∷ ws) = omega (arith, length-row w (flat_map word_bytes ws), row_length ws)
+
+word_0 : (a : ℕ) (ws : List ℕ) → a < 2 ^ 64 → word 0 (flat_map word_bytes (a ∷ ws)) ≡ a
+word_0 a ws fits = word_first a (flat_map word_bytes ws) fits
+
+word_more : (k a b : ℕ) (ws : List ℕ) → word k (flat_map word_bytes ws) ≡ b → word (8 + k) (flat_map word_bytes (a ∷ ws)) ≡ b
+word_more k a b ws is = word_after_first a k (flat_map word_bytes ws) ∙ is
+
+-- ---- cells
+
+pub cell_size : (c : Cell) → length (cell_bytes c) ≡ CELL_SIZE
+cell_size c = row_length (c.key ∷ c.mass ∷ c.centre.x ∷ c.centre.y ∷ c.centre.z ∷ c.first ∷ c.count ∷ c.kids ∷ [])
+
+pub cell_round : (c : Cell) → FitsCellRecord c → cell_of (cell_bytes c) ≡ c
+cell_round c is =
+    let from_kids = c.kids ∷ [] in
+    let from_count = c.count ∷ from_kids in
+    let from_first = c.first ∷ from_count in
+    let from_z = c.centre.z ∷ from_first in
+    let from_y = c.centre.y ∷ from_z in
+    let from_x = c.centre.x ∷ from_y in
+    let from_mass = c.mass ∷ from_x in
+    let key = word_0 c.key from_mass is.key in
+    let mass = word_more 0 c.key c.mass from_mass (word_0 c.mass from_x is.mass) in
+    let x = word_more 8 c.key c.centre.x from_mass (word_more 0 c.mass c.centre.x from_x (word_0 c.centre.x from_y is.x)) in
+    let y = word_more 16 c.key c.centre.y from_mass (word_more 8 c.mass c.centre.y from_x (word_more 0 c.centre.x c.centre.y from_y (word_0 c.centre.y from_z is.y))) in
+    let z = word_more 24 c.key c.centre.z from_mass (word_more 16 c.mass c.centre.z from_x (word_more 8 c.centre.x c.centre.z from_y (word_more 0 c.centre.y c.centre.z from_z (word_0 c.centre.z from_first is.z)))) in
+    let first = word_more 32 c.key c.first from_mass (word_more 24 c.mass c.first from_x (word_more 16 c.centre.x c.first from_y (word_more 8 c.centre.y c.first from_z (word_more 0 c.centre.z c.first from_first (word_0 c.first from_count is.first))))) in
+    let count = word_more 40 c.key c.count from_mass (word_more 32 c.mass c.count from_x (word_more 24 c.centre.x c.count from_y (word_more 16 c.centre.y c.count from_z (word_more 8 c.centre.z c.count from_first (word_more 0 c.first c.count from_count (word_0 c.count from_kids is.count)))))) in
+    let kids = word_more 48 c.key c.kids from_mass (word_more 40 c.mass c.kids from_x (word_more 32 c.centre.x c.kids from_y (word_more 24 c.centre.y c.kids from_z (word_more 16 c.centre.z c.kids from_first (word_more 8 c.first c.kids from_count (word_more 0 c.count c.kids from_kids (word_0 c.kids [] is.kids))))))) in
+    λ i. record {
+      key = key i;
+      mass = mass i;
+      centre = record { x = x i; y = y i; z = z i };
+      first = first i;
+      count = count i;
+      kids = kids i;
+    }
+
+pub cell_room : (c : Cell) (bytes : List ℕ) → length bytes ≡ PAGE_SIZE → page_count bytes < CELLS_PER_PAGE → HasRoom CELL_SIZE (cell_bytes c) bytes
+cell_room c bytes long room = record { fits = cell_size c; room = omega arith; count = omega arith }
+
+-- ---- bodies
+
+abbrev flag_of : Bool → ℕ
+flag_of out = cond out 1 0
+
+-- the row of words behind the flag
+abbrev tail_of : Body → List ℕ
+tail_of b = b.at.x ∷ b.at.y ∷ b.at.z ∷ cast_unsigned w64 b.v.x ∷ cast_unsigned w64 b.v.y ∷ cast_unsigned w64 b.v.z ∷ []
+
+-- the record, grouped from the right
+grouped : (b : Body) → body_bytes b ≡ word_bytes b.id ++ (short_bytes b.mass ++ (short_bytes (flag_of b.out) ++ flat_map word_bytes (tail_of b)))
+grouped b =
+    append_assoc (word_bytes b.id ++ short_bytes b.mass) (short_bytes (flag_of b.out)) (flat_map word_bytes (tail_of b))
+    ∙ append_assoc (word_bytes b.id) (short_bytes b.mass) (short_bytes (flag_of b.out) ++ flat_map word_bytes (tail_of b))
+
+pub body_size : (b : Body) → length (body_bytes b) ≡ BODY_SIZE
+body_size b =
+    omega (
+      arith,
+      length-append (word_bytes b.id ++ short_bytes b.mass ++ short_bytes (flag_of b.out)) (flat_map word_bytes (tail_of b)),
+      length-append (word_bytes b.id ++ short_bytes b.mass) (short_bytes (flag_of b.out)),
+      length-append (word_bytes b.id) (short_bytes b.mass),
+      length-word_bytes b.id,
+      length-short_bytes b.mass,
+      length-short_bytes (flag_of b.out),
+      row_length (tail_of b),
+    )
+
+-- a word of the row behind the flag
+tail_word : (b : Body) (k n : ℕ) → word k (flat_map word_bytes (tail_of b)) ≡ n → word (16 + k) (body_bytes b) ≡ n
+tail_word b k n is =
+    let behind = short_bytes (flag_of b.out) ++ flat_map word_bytes (tail_of b) in
+    let whole : 16 + k ≡ 8 + (4 + (4 + k)) = omega arith in
+    ap (word (16 + k)) (grouped b)
+    ∙ ap (λ j. word j (word_bytes b.id ++ (short_bytes b.mass ++ behind))) whole
+    ∙ word_past (word_bytes b.id) (short_bytes b.mass ++ behind) 8 (4 + (4 + k)) (length-word_bytes b.id)
+    ∙ word_past (short_bytes b.mass) behind 4 (4 + k) (length-short_bytes b.mass)
+    ∙ word_past (short_bytes (flag_of b.out)) (flat_map word_bytes (tail_of b)) 4 k (length-short_bytes (flag_of b.out))
+    ∙ is
+
+flag_fits : (out : Bool) → flag_of out < 2 ^ 32
+flag_fits true = omega arith
+flag_fits false = omega arith
+
+flag_le : (out : Bool) → flag_of out ≤ 1
+flag_le true = omega arith
+flag_le false = omega arith
+
+flag_back : (out : Bool) → eqb (flag_of out) 1 ≡ out
+flag_back true = refl
+flag_back false = refl
+
+unsigned_fits : (z : ℤ) → FitsSigned w64 z → cast_unsigned w64 z < 2 ^ 64
+unsigned_fits (pos n) fits = omega (arith, fits.sfits)
+unsigned_fits (negsuc n) fits = omega (arith, fits.sfits)
+
+body_flag : (b : Body) → short 12 (body_bytes b) ≡ flag_of b.out
+body_flag b =
+    let behind = short_bytes (flag_of b.out) ++ flat_map word_bytes (tail_of b) in
+    ap (short 12) (grouped b)
+    ∙ short_past (word_bytes b.id) (short_bytes b.mass ++ behind) 8 4 (length-word_bytes b.id)
+    ∙ short_past (short_bytes b.mass) behind 4 0 (length-short_bytes b.mass)
+    ∙ short_first (flag_of b.out) (flat_map word_bytes (tail_of b)) (flag_fits b.out)
+
+body_mass : (b : Body) → b.mass < 2 ^ 32 → short 8 (body_bytes b) ≡ b.mass
+body_mass b fits =
+    let behind = short_bytes (flag_of b.out) ++ flat_map word_bytes (tail_of b) in
+    ap (short 8) (grouped b)
+    ∙ short_past (word_bytes b.id) (short_bytes b.mass ++ behind) 8 0 (length-word_bytes b.id)
+    ∙ short_first b.mass behind fits
+
+body_id : (b : Body) → b.id < 2 ^ 64 → word 0 (body_bytes b) ≡ b.id
+body_id b fits = ap (word 0) (grouped b) ∙ word_first b.id (short_bytes b.mass ++ (short_bytes (flag_of b.out) ++ flat_map word_bytes (tail_of b))) fits
+
+pub body_round : (b : Body) → FitsBodyRecord b → body_of (body_bytes b) ≡ b
+body_round b fits =
+    let from_vz = cast_unsigned w64 b.v.z ∷ [] in
+    let from_vy = cast_unsigned w64 b.v.y ∷ from_vz in
+    let from_vx = cast_unsigned w64 b.v.x ∷ from_vy in
+    let from_z = b.at.z ∷ from_vx in
+    let from_y = b.at.y ∷ from_z in
+    let ux = cast_unsigned w64 b.v.x in
+    let uy = cast_unsigned w64 b.v.y in
+    let uz = cast_unsigned w64 b.v.z in
+    let id = body_id b fits.id in
+    let mass = body_mass b fits.mass in
+    let out : eqb (short 12 (body_bytes b)) 1 ≡ b.out = ap (λ f. eqb f 1) (body_flag b) ∙ flag_back b.out in
+    let x = tail_word b 0 b.at.x (word_0 b.at.x from_y fits.x) in
+    let y = tail_word b 8 b.at.y (word_more 0 b.at.x b.at.y from_y (word_0 b.at.y from_z fits.y)) in
+    let z = tail_word b 16 b.at.z (word_more 8 b.at.x b.at.z from_y (word_more 0 b.at.y b.at.z from_z (word_0 b.at.z from_vx fits.z))) in
+    let wx = tail_word b 24 ux (word_more 16 b.at.x ux from_y (word_more 8 b.at.y ux from_z (word_more 0 b.at.z ux from_vx (word_0 ux from_vy (unsigned_fits b.v.x fits.velocity_x))))) in
+    let wy = tail_word b 32 uy (word_more 24 b.at.x uy from_y (word_more 16 b.at.y uy from_z (word_more 8 b.at.z uy from_vx (word_more 0 ux uy from_vy (word_0 uy from_vz (unsigned_fits b.v.y fits.velocity_y)))))) in
+    let wz = tail_word b 40 uz (word_more 32 b.at.x uz from_y (word_more 24 b.at.y uz from_z (word_more 16 b.at.z uz from_vx (word_more 8 ux uz from_vy (word_more 0 uy uz from_vz (word_0 uz [] (unsigned_fits b.v.z fits.velocity_z))))))) in
+    let vx : signed_word 40 (body_bytes b) ≡ b.v.x = ap (cast_signed w64) wx ∙ to_z-of_z w64 b.v.x fits.velocity_x in
+    let vy : signed_word 48 (body_bytes b) ≡ b.v.y = ap (cast_signed w64) wy ∙ to_z-of_z w64 b.v.y fits.velocity_y in
+    let vz : signed_word 56 (body_bytes b) ≡ b.v.z = ap (cast_signed w64) wz ∙ to_z-of_z w64 b.v.z fits.velocity_z in
+    λ i. record {
+      id = id i;
+      mass = mass i;
+      out = out i;
+      at = record { x = x i; y = y i; z = z i };
+      v = record { x = vx i; y = vy i; z = vz i };
+    }
+
+pub body_form : (b : Body) → IsValidBody b → FitsBodyRecord b → IsBodyRecord (body_bytes b)
+body_form b valid fits = record {
+  flag = omega (arith, body_flag b, flag_le b.out);
+  body = subst IsValidBody (sym (body_round b fits)) valid;
+}
+
+pub body_room : (b : Body) (bytes : List ℕ) → length bytes ≡ PAGE_SIZE → page_count bytes < BODIES_PER_PAGE → HasRoom BODY_SIZE (body_bytes b) bytes
+body_room b bytes long room = record { fits = body_size b; room = omega arith; count = omega arith }
+
+-- four fields, written one behind the other, are the record
+pub four_writes : (at : ℕ) (bytes id mass flag row : List ℕ) → at + BODY_SIZE ≤ length bytes → length id ≡ 8 → length mass ≡ 4 → length flag ≡ 4
+    → written (at + 16) row (written (at + 12) flag (written (at + 8) mass (written at id bytes))) ≡ written at (id ++ mass ++ flag ++ row) bytes
+four_writes at bytes id mass flag row within long_id long_mass long_flag =
+    let two : length (id ++ mass) ≡ 12 = omega (arith, length-append id mass) in
+    let three : length (id ++ mass ++ flag) ≡ 16 = omega (arith, length-append (id ++ mass) flag) in
+    ap (λ w. written (at + 16) row (written (at + 12) flag w)) (written_twice at id mass bytes (at + 8) (omega arith) (omega arith) (omega arith))
+    ∙ ap (λ w. written (at + 16) row w) (written_twice at (id ++ mass) flag bytes (at + 12) (omega arith) (omega arith) (omega arith))
+    ∙ written_twice at (id ++ mass ++ flag) row bytes (at + 16) (omega arith) (omega arith) (omega arith)

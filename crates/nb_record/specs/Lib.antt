@@ -1,0 +1,9 @@
+pub mod Fields
+pub mod Pages
+pub mod Records
+pub mod Writing
+pub mod Looking
+pub mod Order
+pub mod Cells
+pub mod Table
+pub mod Tree

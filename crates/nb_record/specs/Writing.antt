@@ -1,0 +1,18 @@
+-- What the writers leave of a page.
+use Rattle.std.specs.Prelude.{ℕ, ◌+◌, ◌*◌, List, replicate}
+use Rattle.nb_record.specs.declared.sizes.TheConstants.{PAGE_SIZE, HEADER_SIZE}
+use Rattle.nb_record.specs.Fields.{word_bytes, written}
+use Rattle.nb_record.specs.Pages.{page_count}
+
+unfoldable pub zero_page : List ℕ
+zero_page = replicate PAGE_SIZE 0
+
+-- a page with this number, no record and no next page
+abbrev pub empty_page : ℕ → List ℕ
+empty_page page = written 0 (word_bytes page) zero_page
+
+-- The page with one more record of this size: the record stands behind the others, the count is one greater, and every
+-- other byte is as it was.
+abbrev pub with_record : ℕ → List ℕ → List ℕ → List ℕ
+with_record size piece bytes =
+    written 8 (word_bytes (page_count bytes + 1)) (written (HEADER_SIZE + size * page_count bytes) piece bytes)

@@ -1,0 +1,67 @@
+//! The fields of a page, each at its place in bytes. Numbers are little-endian.
+
+ghost use Rattle.std.specs.Prelude.{◌≡◌, ℕ, ◌+◌, ◌*◌, ◌^◌, ◌<◌, ◌≤◌, length, slice_index};
+ghost use Rattle.std.specs.List.{flat_map};
+ghost use Rattle.nb_record.specs.Fields.{word, short, signed_word, word_bytes, short_bytes, written};
+
+use byteorder::{ByteOrder, LittleEndian};
+
+/// The length of a word, in bytes.
+pub(crate) const WORD: usize = 8;
+
+/// The length of a short word, in bytes.
+pub(crate) const SHORT: usize = 4;
+
+/// The number of the eight bytes from a place on.
+#[tactic(auto, unfolding(crate::specs::Fields::word))]
+pub(crate) fn word_at(bytes: &[u8], at: usize) -> u64
+    requires { at + 8 ≤ length bytes.now }
+    ensures { result ≡ word at bytes.now }
+{
+    LittleEndian::read_u64(&bytes[at..])
+}
+
+/// The number of the four bytes from a place on.
+#[tactic(auto, unfolding(crate::specs::Fields::short))]
+pub(crate) fn short_at(bytes: &[u8], at: usize) -> u32
+    requires { at + 4 ≤ length bytes.now }
+    ensures { result ≡ short at bytes.now }
+{
+    LittleEndian::read_u32(&bytes[at..])
+}
+
+/// The signed number of the eight bytes from a place on, in two's complement.
+pub(crate) fn signed_word_at(bytes: &[u8], at: usize) -> i64
+    requires { at + 8 ≤ length bytes.now }
+    ensures { result ≡ signed_word at bytes.now }
+{
+    word_at(bytes, at).cast_signed()
+}
+
+/// Writes a number into the eight bytes from a place on.
+#[tactic(auto, unfolding(crate::specs::Fields::word_bytes))]
+pub(crate) fn put_word(into: &mut [u8], at: usize, number: u64)
+    requires { at + 8 ≤ length into.old }
+    ensures { into.new ≡ written at (word_bytes number) into.old }
+{
+    LittleEndian::write_u64(&mut into[at..at + WORD], number);
+}
+
+/// Writes a number into the four bytes from a place on.
+#[tactic(auto, unfolding(crate::specs::Fields::short_bytes))]
+pub(crate) fn put_short(into: &mut [u8], at: usize, number: u32)
+    requires { at + 4 ≤ length into.old }
+    ensures { into.new ≡ written at (short_bytes number) into.old }
+{
+    LittleEndian::write_u32(&mut into[at..at + SHORT], number);
+}
+
+/// Writes numbers into the bytes from a place on, eight bytes each.
+#[tactic(auto, unfolding(crate::specs::Fields::word_bytes))]
+pub(crate) fn put_words(into: &mut [u8], at: usize, words: &[u64])
+    requires { at + 8 * length words.now ≤ length into.old }
+    ensures bytes { into.new ≡ written at (flat_map word_bytes words.now) into.old }
+    ensures fits { (i : ℕ) → slice_index words.now i < 2 ^ 64 }
+{
+    LittleEndian::write_u64_into(words, &mut into[at..at + WORD * words.len()]);
+}

@@ -1,0 +1,36 @@
+//! Pages of bodies and of cells: views over borrowed bytes that copy nothing and take no memory, the writers
+//! of a page, and the search for a key on a page.
+//!
+//! `body_page`, `cell_page` and `cell` have the views, `writers` fills pages, `lender` is what shows pages,
+//! and `search_page` finds a key on one. The forms stand in `specs/`: `Fields`, `Pages`, `Records` and
+//! `Writing`, and what a search answers in `Looking`. `Order`, `Cells`, `Table` and `Tree` say what the files
+//! of a tree hold, for the crates above.
+#![tactic(auto)]
+
+mod answer;
+mod body_page;
+mod cell;
+mod cell_page;
+mod fields;
+mod header;
+mod laws;
+mod lender;
+mod search_page;
+mod sizes;
+mod tree;
+mod writers;
+
+pub use answer::Look;
+pub use body_page::BodyPage;
+pub use cell::{Cell, CellView};
+pub use cell_page::CellPage;
+pub use header::PageError;
+pub use laws::{law_bodies, law_cells, law_checks, law_sorted_by};
+pub use lender::Lender;
+pub use search_page::look;
+pub use sizes::{BODIES_PER_PAGE, BODY_SIZE, CELL_SIZE, CELLS_PER_PAGE, HEADER_SIZE, PAGE_SIZE};
+pub use tree::Tree;
+pub use writers::{add_body, add_cell, begin_body_page, begin_cell_page, set_next};
+
+#[cfg(test)]
+mod tests;
