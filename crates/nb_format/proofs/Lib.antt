@@ -1,7 +1,17 @@
 pub mod Parts
 pub mod Numbers
+pub mod Places
 pub mod HeaderBytes
+pub mod HeaderRefusals
 pub mod RecordBytes
+pub mod RecordRefusals
 pub mod Snapshots
 pub mod Reading
+pub mod SnapshotRefusals
 pub mod Writing
+pub mod Numerals
+pub mod ParamsLines
+pub mod ParamsValues
+pub mod CanonicalParams
+pub mod Decimals
+pub mod ParamsOnce

@@ -3,20 +3,19 @@ use Rattle.std.proofs.Common.{◌≡◌, ℕ, ◌+◌, ◌-◌, ◌*◌, ◌<◌
 use Rattle.std.specs.Prelude.{IfSome}
 use Rattle.std.specs.List.{flat_map}
 use Rattle.std.specs.List.Sorted.{IsStrictlyIncreasing}
-use Rattle.std.proofs.lemmas.Bool.{cases_lt}
-use Rattle.std.proofs.lemmas.List.{get_or_append_left, get_or_at, take_at, drop_at, take-take, take-append-drop, length-drop, length-take, drop-take, append-nil, drop-drop, length-map, length_push, map-append}
-use Rattle.std.proofs.lemmas.List.Elements.{recursion_from_All, All-push}
+use Rattle.std.proofs.lemmas.Bool.{cases_lt, cond-false, le-ltb}
+use Rattle.std.proofs.lemmas.List.{get_or_append_left, get_or_at, take_at, drop_at, take-take, length-drop, length-take, drop-take, append-nil, length-map, length_push, map-append}
+use Rattle.std.proofs.lemmas.List.Elements.{All-push}
 use Rattle.std.proofs.lemmas.List.Concat.{flat_map-append}
 use Rattle.std.proofs.Math.Seq.{take-add}
 use Rattle.std.proofs.Math.Logic.{⊎_elim}
 use Rattle.nb_model.specs.declared.body.Body.{Body}
 use Rattle.nb_model.specs.Limits.{most_bodies}
 use Rattle.nb_format.specs.declared.snap_reader.SnapReader.{SnapReader}
-use Rattle.nb_format.specs.Snapshot.{header_bytes, record_bytes, snapshot_length, IsStoredBody, AreStoredBodies, IsSnapshot}
-use Rattle.nb_format.specs.Reader.{count_of, time_of, read_count, last_of, HasRead, MayFollow, IsBehind, IsFrontOf}
+use Rattle.nb_format.specs.Snapshot.{header_bytes, record_bytes, snapshot_length, IsStoredBody, AreStoredBodies}
+use Rattle.nb_format.specs.Reader.{count_of, time_of, read_count, last_id, last_of, HasRead, MayFollow, IsBehind, IsFrontOf, next_refusal}
+use Rattle.nb_format.specs.SnapshotRefusal.{record_refusal}
 use Rattle.nb_format.proofs.HeaderBytes.{length-header_bytes}
-use Rattle.nb_format.proofs.RecordBytes.{length-record_bytes}
-use Rattle.nb_format.proofs.Snapshots.{length-records, records_front, snapshot_whole, snapshot_records}
 
 abbrev pub ids : List Body → List ℕ
 ids bodies = map (λ b. b.id) bodies
@@ -80,63 +79,19 @@ stored-push bodies b stored fits above few = record {
   count = omega (arith, length_push bodies b);
 }
 
--- What a snapshot that the reader has read in part still holds: the body that follows, and its record.
-pub record IsNext (reader : SnapReader) (bytes : List ℕ) (body : Body) : Type 0 where
-  pub follows : MayFollow reader body
-  pub spelled : take 64 (drop (snapshot_length (read_count reader)) bytes) ≡ record_bytes body
-
--- the records of a snapshot begin with those of the bodies that were read
-read_front : (reader : SnapReader) (bytes : List ℕ) (bodies all : List Body) (time : ℕ) → HasRead reader bytes bodies → IsSnapshot bytes all time
-    → length bodies ≤ length all → take (length bodies) all ≡ bodies
-read_front reader bytes bodies all time has is fewer =
-    records_front bodies all (recursion_from_All IsStoredBody bodies has.stored.each) (recursion_from_All IsStoredBody all is.stored.each) fewer
-    (ap (take (64 * length bodies)) (sym (snapshot_records is)) ∙ sym (drop-take 32 (64 * length bodies) bytes)
-    ∙ ap (drop 32) has.begins
-    ∙ drop_at (header_bytes (count_of reader) (time_of reader)) (flat_map record_bytes bodies) 32 (length-header_bytes (count_of reader) (time_of reader)))
+-- the records that the reader has read
+pub read_records : (reader : SnapReader) (bytes : List ℕ) (bodies : List Body) → HasRead reader bytes bodies
+    → take (64 * length bodies) (drop 32 bytes) ≡ flat_map record_bytes bodies
+read_records reader bytes bodies has =
+    sym (drop-take 32 (64 * length bodies) bytes) ∙ ap (drop 32) has.begins
+    ∙ drop_at (header_bytes (count_of reader) (time_of reader)) (flat_map record_bytes bodies) 32 (length-header_bytes (count_of reader) (time_of reader))
 
 -- the header that the reader has read
-read_header : (reader : SnapReader) (bytes : List ℕ) (bodies : List Body) → HasRead reader bytes bodies
+pub read_header : (reader : SnapReader) (bytes : List ℕ) (bodies : List Body) → HasRead reader bytes bodies
     → take 32 bytes ≡ header_bytes (count_of reader) (time_of reader)
 read_header reader bytes bodies has =
     sym (take-take 32 (snapshot_length (length bodies)) bytes (omega arith)) ∙ ap (take 32) has.begins
     ∙ take_at (header_bytes (count_of reader) (time_of reader)) (flat_map record_bytes bodies) 32 (length-header_bytes (count_of reader) (time_of reader))
-
--- the body behind those that were read is the next
-next_is : (reader : SnapReader) (bytes : List ℕ) (bodies rest : List Body) (body : Body) (time : ℕ) → HasRead reader bytes bodies
-    → IsSnapshot bytes (bodies ++ body ∷ rest) time → IsNext reader bytes body
-next_is reader bytes bodies rest body time has is =
-    let read = flat_map record_bytes bodies in
-    let behind = flat_map record_bytes rest in
-    let records : drop 32 bytes ≡ read ++ (record_bytes body ++ behind) =
-    snapshot_records is ∙ flat_map-append record_bytes bodies (body ∷ rest) in
-    let place : snapshot_length (read_count reader) ≡ 32 + 64 * length bodies = ap snapshot_length has.read in
-    record {
-      follows = record {
-        stored = subst IsStoredBody (get_or_at bodies body rest body (length bodies) refl)
-            (is.stored.each (length bodies) body (omega (arith, length-append bodies (body ∷ rest))));
-        rises = subst (λ (last : Option ℕ). IfSome last (λ id. id < body.id)) (sym has.last) (rises_behind bodies body rest is.stored.ids);
-      };
-      spelled = ap (λ (at : ℕ). take 64 (drop at bytes)) place ∙ ap (take 64)
-          (sym (drop-drop (64 * length bodies) 32 bytes) ∙ ap (drop (64 * length bodies)) records
-          ∙ drop_at read (record_bytes body ++ behind) (64 * length bodies) (length-records bodies))
-          ∙ take_at (record_bytes body) behind 64 (length-record_bytes body);
-    }
-
--- of a snapshot that isn't read whole there is a next body
-next_in : (reader : SnapReader) (bytes : List ℕ) (bodies all rest : List Body) (time : ℕ) → HasRead reader bytes bodies
-    → IsSnapshot bytes all time → all ≡ bodies ++ rest → length bodies < length all → (body : Body) × IsNext reader bytes body
-next_in reader bytes bodies all [] time has is parted more = absurd (omega (arith, ap length parted, length-append bodies []))
-next_in reader bytes bodies all (body ∷ rest) time has is parted more =
-    (body, next_is reader bytes bodies rest body time has (subst (λ (xs : List Body). IsSnapshot bytes xs time) parted is))
-
-pub has_next : (reader : SnapReader) (bytes : List ℕ) (bodies all : List Body) (time : ℕ) → HasRead reader bytes bodies
-    → IsSnapshot bytes all time → read_count reader < count_of reader → (body : Body) × IsNext reader bytes body
-has_next reader bytes bodies all time has is more =
-    let count : count_of reader ≡ length all = omega (arith, has.whole, snapshot_whole is) in
-    let fewer : length bodies < length all = omega (arith, has.read) in
-    let front = read_front reader bytes bodies all time has is (omega arith) in
-    next_in reader bytes bodies all (drop (length bodies) all) time has is
-    (sym (take-append-drop (length bodies) all) ∙ ap (λ (xs : List Body). xs ++ drop (length bodies) all) front) fewer
 
 -- what is read whole lies within the file
 pub whole_inside : (file w : List ℕ) (at : ℕ) → w ≡ take 64 (drop at file) → length w ≡ 64 → at + 64 ≤ length file
@@ -181,3 +136,11 @@ read_more old new bytes bodies b has follows behind few more is =
           ∙ ap (λ (n : ℕ). header_bytes n (time_of old) ++ flat_map record_bytes (bodies ++ b ∷ [])) (sym behind.count)
           ∙ ap (λ (t : ℕ). header_bytes (count_of new) t ++ flat_map record_bytes (bodies ++ b ∷ [])) (sym behind.time);
     }
+
+-- of a file that holds the record whole it is the record that is looked at
+pub next_is_record : (reader : SnapReader) (file w : List ℕ) → w ≡ take 64 (drop (snapshot_length (read_count reader)) file) → length w ≡ 64
+    → next_refusal reader file ≡ record_refusal (read_count reader) (last_id reader) w
+next_is_record reader file w is long =
+    let inside = whole_inside file w (snapshot_length (read_count reader)) is long in
+    let whole : snapshot_length (read_count reader + 1) ≤ length file = omega arith in
+    cond-false _ _ _ (le-ltb _ _ whole) ∙ ap (record_refusal (read_count reader) (last_id reader)) (sym is)

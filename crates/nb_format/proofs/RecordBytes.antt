@@ -1,11 +1,12 @@
 -- A record spells one body.
 use Rattle.std.proofs.Common.{◌≡◌, ℕ, ◌^◌, ◌<◌, List, ◌++◌, length, take, refl, sym, ap, subst, ◌∙◌, arith, ℤ, pos, negsuc, FitsSigned, Bool, true, false, cond}
-use Rattle.std.specs.Prelude.{◌≢◌, Option, Some, None, IfSome, IfNone}
+use Rattle.std.specs.Prelude.{Result, Ok, Err, IfOk}
 use Rattle.std.specs.Int.{w32, w64, to_le_bytes, cast_signed, cast_unsigned}
 use Rattle.std.proofs.lemmas.Int.{of_z-to_z, to_z-of_z}
 use Rattle.nb_model.specs.declared.body.Body.{Body}
 use Rattle.nb_model.specs.Valid.{IsValidBody}
 use Rattle.nb_format.specs.declared.record.Fields.{Fields}
+use Rattle.nb_format.specs.declared.snap_error.SnapError.{SnapError}
 use Rattle.nb_format.specs.Snapshot.{record_bytes, FitsRecord, IsStoredBody}
 use Rattle.nb_format.specs.Fields.{fields_of, fields_bytes}
 use Rattle.nb_format.proofs.Parts.{StandIn, nine_stand, nine_from_stand, nine_put}
@@ -50,14 +51,14 @@ fields_encoded w f long put =
     (to_le_bytes w64 f.at.y) (to_le_bytes w64 f.at.z) (to_le_bytes w64 (cast_unsigned w64 f.v.x))
     (to_le_bytes w64 (cast_unsigned w64 f.v.y)) (to_le_bytes w64 (cast_unsigned w64 f.v.z)) w put long
 
-cast_unsigned_fits : (z : ℤ) → FitsSigned w64 z → cast_unsigned w64 z < 2 ^ 64
+pub cast_unsigned_fits : (z : ℤ) → FitsSigned w64 z → cast_unsigned w64 z < 2 ^ 64
 cast_unsigned_fits (pos n) fits = omega (arith, fits.sfits)
 cast_unsigned_fits (negsuc n) fits = omega (arith, fits.sfits)
 
 abbrev flag_of : Bool → ℕ
 flag_of out = cond out 1 0
 
-flag_fits : (out : Bool) → flag_of out < 2 ^ 32
+pub flag_fits : (out : Bool) → flag_of out < 2 ^ 32
 flag_fits true = omega arith
 flag_fits false = omega arith
 
@@ -78,13 +79,13 @@ pub record Fit (f : Fields) : Type 0 where
   pub velocity : FitsRecord f.v
 
 -- each field at its place
-abbrev HaveFields : List ℕ → Fields → Type 0
+abbrev pub HaveFields : List ℕ → Fields → Type 0
 HaveFields w f =
     StandIn w (to_le_bytes w64 f.id) (to_le_bytes w32 f.mass) (to_le_bytes w32 f.flag) (to_le_bytes w64 f.at.x)
     (to_le_bytes w64 f.at.y) (to_le_bytes w64 f.at.z) (to_le_bytes w64 (cast_unsigned w64 f.v.x))
     (to_le_bytes w64 (cast_unsigned w64 f.v.y)) (to_le_bytes w64 (cast_unsigned w64 f.v.z))
 
-have_fields : (f : Fields) → HaveFields (fields_bytes f) f
+pub have_fields : (f : Fields) → HaveFields (fields_bytes f) f
 unfolding fields_bytes
 have_fields f =
     nine_stand (to_le_bytes w64 f.id) (to_le_bytes w32 f.mass) (to_le_bytes w32 f.flag) (to_le_bytes w64 f.at.x)
@@ -154,18 +155,7 @@ pub length-record_bytes : (b : Body) → length (record_bytes b) ≡ 64
 unfolding record_bytes
 length-record_bytes b = refl
 
--- the fields that were read of a body's record are the body's
-pub fields_are : (w : List ℕ) (f : Fields) (b : Body) → Fit f → w ≡ fields_bytes f → IsStoredBody b → w ≡ record_bytes b → fields_of b ≡ f
-fields_are w f b fit spelled stored is =
-    same_fields (fields_of b) f (stored_fit b stored) fit (sym (record_bytes_is b) ∙ sym is ∙ spelled)
-
-pub record_of_some : (w : List ℕ) (f : Fields) (found : Option Body) → w ≡ fields_bytes f → IfSome found (λ b. fields_of b ≡ f)
-    → IfSome found (λ b. w ≡ record_bytes b)
-record_of_some w f (Some b) spelled is = spelled ∙ ap fields_bytes (sym is) ∙ sym (record_bytes_is b)
-record_of_some w f None spelled is = tt
-
-pub record_of_none : (w : List ℕ) (f : Fields) (found : Option Body) (P : Body → Type 0) → ((b : Body) → P b → IsStoredBody b) → Fit f
-    → w ≡ fields_bytes f → IfNone found ((b : Body) → IsStoredBody b → fields_of b ≢ f)
-    → IfNone found ((b : Body) → P b → w ≢ record_bytes b)
-record_of_none w f (Some b) P stored fit spelled none = tt
-record_of_none w f None P stored fit spelled none = λ b holds is. none b (stored b holds) (fields_are w f b fit spelled (stored b holds) is)
+pub record_of_ok : (w : List ℕ) (f : Fields) (found : Result Body SnapError) → w ≡ fields_bytes f → IfOk found (λ b. fields_of b ≡ f)
+    → IfOk found (λ b. w ≡ record_bytes b)
+record_of_ok w f (Ok b) spelled is = spelled ∙ ap fields_bytes (sym is) ∙ sym (record_bytes_is b)
+record_of_ok w f (Err e) spelled is = tt

@@ -1,11 +1,11 @@
 -- The bytes of a snapshot: how long they are, and that they spell one list and one time only.
-use Rattle.std.proofs.Common.{◌≡◌, ◌≢◌, ℕ, ◌+◌, ◌*◌, ◌<◌, ◌≤◌, List, [], ◌∷◌, ◌++◌, length, take, drop, slice_index, refl, sym, ap, ◌∙◌, arith, length-append}
+use Rattle.std.proofs.Common.{◌≡◌, ℕ, ◌+◌, ◌*◌, ◌≤◌, List, [], ◌∷◌, ◌++◌, length, take, drop, slice_index, refl, sym, ap, ◌∙◌, arith, length-append}
 use Rattle.std.specs.List.{flat_map, AllByRecursion}
 use Rattle.std.proofs.lemmas.List.{take_at, drop_at, take_all, get_or_append_left}
 use Rattle.std.proofs.lemmas.List.Elements.{recursion_from_All}
 use Rattle.std.proofs.Math.Seq.{take-append-add}
 use Rattle.nb_model.specs.declared.body.Body.{Body}
-use Rattle.nb_format.specs.Snapshot.{header_bytes, record_bytes, snapshot_length, IsHeader, IsNoHeader, IsStoredBody, IsSnapshot, IsNoSnapshot, IsFinishedSnapshot}
+use Rattle.nb_format.specs.Snapshot.{header_bytes, record_bytes, snapshot_length, IsHeader, IsStoredBody, IsSnapshot, IsFinishedSnapshot}
 use Rattle.nb_format.proofs.HeaderBytes.{length-header_bytes, has_header, header_has, header_numbers}
 use Rattle.nb_format.proofs.RecordBytes.{length-record_bytes, same_body}
 
@@ -77,12 +77,3 @@ snapshot_finished {bytes} {bodies} {time} is = record {
       ∙ get_or_append_left (header_bytes (length bodies) time) (flat_map record_bytes bodies) 0 0 (omega (arith, length-header_bytes (length bodies) time))
       ∙ (has_header (length bodies) time).opened;
 }
-
-pub none_if_short : {bytes : List ℕ} → length bytes < 32 → IsNoSnapshot bytes
-none_if_short short = λ bodies time is. omega (arith, snapshot_whole is)
-
-pub none_if_no_header : {bytes : List ℕ} → IsNoHeader (take 32 bytes) → IsNoSnapshot bytes
-none_if_no_header none = λ bodies time is. none (length bodies) time (snapshot_header is)
-
-pub none_if_other_length : {bytes : List ℕ} {count time : ℕ} → IsHeader (take 32 bytes) count time → length bytes ≢ snapshot_length count → IsNoSnapshot bytes
-none_if_other_length header other = λ bodies time is. other (snapshot_whole is ∙ ap snapshot_length (one_header (snapshot_header is) header).0)

@@ -1,5 +1,10 @@
 pub mod Errors
 pub mod Snapshot
 pub mod Fields
+pub mod SnapshotRefusal
 pub mod Reader
 pub mod Writer
+pub mod Digits
+pub mod ParamsText
+pub mod ParamsReading
+pub mod Lines

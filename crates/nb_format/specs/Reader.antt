@@ -1,10 +1,13 @@
 -- What a snapshot reader has read.
-use Rattle.std.specs.Prelude.{◌≡◌, ℕ, ◌+◌, ◌<◌, ◌≤◌, Option, Some, None, IfSome, List, [], ◌∷◌, ◌++◌, length, take}
+use Rattle.std.specs.Prelude.{◌≡◌, ℕ, ◌+◌, ◌<◌, ◌≤◌, if◌then◌else◌, nat_lt, Option, Some, None, IfSome, List, [], ◌∷◌, ◌++◌, length, take}
 use Rattle.std.specs.List.{flat_map}
 use Rattle.nb_model.specs.declared.body.Body.{Body}
 use Rattle.nb_model.specs.Limits.{most_bodies}
+use Rattle.nb_format.specs.declared.snap_error.SnapError.{SnapError}
+use Rattle.nb_format.specs.declared.snap_error.SnapError.TheVariants as snap
 use Rattle.nb_format.specs.declared.snap_reader.SnapReader.{SnapReader}
 use Rattle.nb_format.specs.Snapshot.{header_bytes, record_bytes, snapshot_length, IsStoredBody, AreStoredBodies}
+use Rattle.nb_format.specs.SnapshotRefusal.{record_refusal, record_at}
 
 -- the number of the reader's file
 abbrev pub file_of : SnapReader → ℕ
@@ -64,3 +67,10 @@ pub record HasRead (reader : SnapReader) (bytes : List ℕ) (bodies : List Body)
 -- The reader's file reads as when it was opened, or has become shorter since.
 abbrev pub IsFrontOf : List ℕ → List ℕ → Type 0
 IsFrontOf bytes now = (n : ℕ) × (now ≡ take n bytes)
+
+-- What a reader that isn't at its end refuses of a file that holds these bytes: the next record, or that the file ends
+-- before that record's end.
+abbrev pub next_refusal : SnapReader → List ℕ → Option SnapError
+next_refusal reader file =
+    if nat_lt (length file) (snapshot_length (read_count reader + 1)) then Some snap.Length
+    else record_refusal (read_count reader) (last_id reader) (record_at (read_count reader) file)

@@ -29,10 +29,6 @@ pub record IsHeader (bytes : List ℕ) (count time : ℕ) : Type 0 where
   pub few : count ≤ most_bodies
   pub fits : time < 2 ^ 64
 
--- the bytes are no header
-abbrev pub IsNoHeader : List ℕ → Type 0
-IsNoHeader bytes = (count time : ℕ) → IsHeader bytes count time → ⊥
-
 abbrev pub vector_bytes : V3 → List ℕ
 vector_bytes v = to_le_bytes w64 (cast_unsigned w64 v.x) ++ to_le_bytes w64 (cast_unsigned w64 v.y) ++ to_le_bytes w64 (cast_unsigned w64 v.z)
 

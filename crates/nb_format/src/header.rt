@@ -1,8 +1,10 @@
 //! The header: the gate, the form's name, the count of bodies, the time, and zeros.
 
-ghost use Rattle.std.specs.Prelude.{◌≡◌, IfSome, IfNone};
-ghost use Rattle.nb_format.specs.Snapshot.{header_bytes, IsHeader, IsNoHeader};
+ghost use Rattle.std.specs.Prelude.{◌≡◌, IfOk, IfErr, Some};
+ghost use Rattle.nb_format.specs.Snapshot.{header_bytes, IsHeader};
+ghost use Rattle.nb_format.specs.SnapshotRefusal.{header_field_refusal, IsOfHeader};
 
+use crate::SnapError;
 use crate::bytes::{put, stands_at, u64_at};
 use nb_model::MOST_BODIES;
 
@@ -38,26 +40,28 @@ pub(crate) struct Header {
     pub(crate) time: u64,
 }
 
-/// The header that the bytes spell, where they spell one.
-pub(crate) fn decode(bytes: &[u8; HEADER_LENGTH]) -> Option<Header>
-    ensures some { IfSome result (λ header. IsHeader bytes.now header.count header.time) }
-    ensures none { IfNone result (IsNoHeader bytes.now) }
+/// The header that the bytes spell, or the first of its fields that isn't of the form.
+pub(crate) fn decode(bytes: &[u8; HEADER_LENGTH]) -> Result<Header, SnapError>
+    ensures header { IfOk result (λ header. IsHeader bytes.now header.count header.time) }
+    ensures refusal { IfErr result (λ e. header_field_refusal bytes.now ≡ Some e) }
+    ensures code { IfErr result IsOfHeader }
 {
     if bytes[GATE_AT] != GATE {
-        return None;
+        return Err(SnapError::Unfinished);
     }
     if !stands_at(bytes, NAME_AT, NAME) {
-        return None;
+        return Err(SnapError::Magic);
     }
     let count = u64_at(bytes, COUNT_AT);
     if count > MOST_BODIES {
-        return None;
+        return Err(SnapError::Count);
     }
-    if !stands_at(bytes, ZEROS_AT, &ZEROS) {
-        return None;
+    let zeros = u64_at(bytes, ZEROS_AT);
+    if zeros != 0 {
+        return Err(SnapError::Zeros);
     }
     let time = u64_at(bytes, TIME_AT);
-    Some(Header { count, time })
+    Ok(Header { count, time })
 }
 
 /// The header of so many bodies at a time in ticks.

@@ -1,25 +1,49 @@
-//! The snapshot form: a reader that accepts exactly it, and a writer whose file is finished only when it is
-//! right.
+//! What the program reads, writes and says: the parameter text, the snapshot and the lines.
 //!
-//! `snap_reader` reads, `snap_writer` writes, `finished` looks whether a file is finished. The form stands in
-//! `specs/Snapshot`, what a reader has read and a writer has filled in `specs/Reader` and `specs/Writer`.
+//! `snap_reader` accepts exactly a snapshot or names its first bad field (`specs/Snapshot` and
+//! `SnapshotRefusal`), `snap_writer` fills a file that is finished only when it is right, and `finished`
+//! looks whether one is. `params_reader` accepts exactly a parameter text or names its first fault
+//! (`specs/ParamsText`). `text` is a line in place, and `said`, `parameter` and `refusals_said` make the lines
+//! of `specs/Lines`.
 #![tactic(auto)]
 
 mod bytes;
+mod digits;
 mod finished;
 mod header;
 mod laws;
 mod length;
+mod parameter;
+mod params_error;
+mod params_laws;
+mod params_line;
+mod params_reader;
 mod record;
+mod refusals_said;
+mod said;
 mod snap_error;
 mod snap_reader;
 mod snap_writer;
+mod text;
 
+pub use digits::number_of;
 pub use finished::snap_finished;
-pub use laws::{law_one_snapshot, law_snapshot_is_finished};
+pub use laws::{law_one_snapshot, law_snapshot_is_finished, law_snapshot_refusal};
+pub use parameter::param_line;
+pub use params_error::ParamsError;
+pub use params_laws::{law_canonical_params, law_each_parameter_once};
+pub use params_reader::{MOST_TEXT, read_params};
+pub use refusals_said::{
+    already_text, damaged_text, device_text, heavy_text, leg_text, limit_text, many_text,
+    memory_text, not_started_text, params_text, snapshot_text, there_text, words_text,
+};
+pub use said::{demo_line, done_line, folder_line, made_line, once_line, started_line, tick_line};
 pub use snap_error::SnapError;
 pub use snap_reader::SnapReader;
 pub use snap_writer::{Closed, Filling, Fresh};
+pub use text::{LONGEST_TEXT, Text};
 
+#[cfg(test)]
+mod params_tests;
 #[cfg(test)]
 mod tests;

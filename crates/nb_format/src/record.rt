@@ -1,11 +1,11 @@
 //! A record: the bytes of one body.
 
-ghost use Rattle.std.specs.Prelude.{◌≡◌, ◌≢◌, ◌↔◌, false, IsTrue, IfSome, IfNone};
-ghost use Rattle.nb_model.specs.declared.body.Body.{Body};
+ghost use Rattle.std.specs.Prelude.{◌≡◌, ◌≤◌, ◌↔◌, false, IsTrue, IfOk, IfErr, Some};
 ghost use Rattle.nb_model.specs.Limits.{speed_limit};
 ghost use Rattle.nb_model.specs.Valid.{IsInBox, IsBelow, IsValidBody};
 ghost use Rattle.nb_format.specs.Snapshot.{record_bytes, IsStoredBody};
 
+use crate::SnapError;
 use crate::bytes::{put, u32_at, u64_at};
 use nb_model::{At, BOX_SIDE, Body, SPEED_LIMIT, V3};
 
@@ -49,6 +49,7 @@ pub(crate) struct Fields {
 
 impl Fields {
     ghost use Rattle.nb_format.specs.Fields.{fields_of, fields_bytes};
+    ghost use Rattle.nb_format.specs.SnapshotRefusal.{field_refusal, IsOfRecord};
 
     /// The fields of a body.
     pub(crate) fn of(body: &Body) -> Fields
@@ -114,26 +115,28 @@ impl Fields {
         bytes
     }
 
-    /// The body of these fields, where they are a body's.
-    pub(crate) fn body(self) -> Option<Body>
-        ensures fields { IfSome result (λ body. fields_of body ≡ self) }
-        ensures stored { IfSome result IsStoredBody }
-        ensures none { IfNone result ((body : Body) → IsStoredBody body → fields_of body ≢ self) }
+    /// The body of these fields, or the first of them behind the id that no body has. `index` is that of
+    /// the record.
+    pub(crate) fn body(self, index: u64) -> Result<Body, SnapError>
+        ensures fields { IfOk result (λ body. fields_of body ≡ self) }
+        ensures stored { IfOk result IsStoredBody }
+        ensures refusal { IfErr result (λ e. field_refusal index self ≡ Some e) }
+        ensures code { IfErr result (IsOfRecord index) }
     {
         if self.mass == 0 {
-            return None;
+            return Err(SnapError::Mass(index));
         }
-        if self.flag != IN_BOX && self.flag != OUT {
-            return None;
+        if !is_flag(self.flag) {
+            return Err(SnapError::Flag(index));
         }
         if !is_in_box(&self.at) {
-            return None;
+            return Err(SnapError::Place(index));
         }
         let out = self.flag == OUT;
         if !may_move(out, &self.v) {
-            return None;
+            return Err(SnapError::Speed(index));
         }
-        Some(Body {
+        Ok(Body {
             id: self.id,
             mass: self.mass,
             out,
@@ -149,6 +152,13 @@ pub(crate) fn encode(body: &Body) -> [u8; RECORD_LENGTH]
     ensures stored { IsValidBody body.now → IsStoredBody body.now }
 {
     Fields::of(body).encode()
+}
+
+/// Whether the flag has one of its two values.
+fn is_flag(flag: u32) -> bool
+    ensures { IsTrue result ↔ (flag ≤ 1) }
+{
+    flag == IN_BOX || flag == OUT
 }
 
 /// Whether each coordinate is below the side of the box.

@@ -1,10 +1,11 @@
 //! The snapshot reader. It streams: it holds the header's numbers and its place, and no bodies.
 
-ghost use Rattle.std.specs.Prelude.{◌≡◌, ◌≢◌, ℕ, ◌+◌, ◌*◌, ◌<◌, ◌≤◌, ◌↔◌, ◌⊎◌, IsTrue, IfOk, OnOk, OnErr, IfSome, IfNone, Ok, Err, None, Some, List, [], ◌∷◌, ◌++◌, length};
+ghost use Rattle.std.specs.Prelude.{◌≡◌, ◌≢◌, ℕ, ◌+◌, ◌*◌, ◌<◌, ◌≤◌, ◌↔◌, ◌⊎◌, IsTrue, IfOk, IfErr, OnOk, OnErr, IfSome, Ok, Err, None, Some, List, [], ◌∷◌, ◌++◌, length};
 ghost use Rattle.nb_model.specs.Limits.{most_bodies};
 ghost use Rattle.nb_host.specs.declared.host.TheConstants.{LAST_FILE, PLACE_LIMIT};
 ghost use Rattle.nb_host.specs.Faults.{Rose};
 ghost use Rattle.nb_host.specs.Image.{readable};
+ghost use Rattle.nb_format.specs.SnapshotRefusal.{IsBySnapshot};
 
 use crate::SnapError;
 use crate::header::{self, HEADER_LENGTH, Header};
@@ -31,17 +32,23 @@ pub struct SnapReader {
 
 impl SnapReader {
     ghost use Rattle.nb_model.specs.declared.body.Body.{Body};
-    ghost use Rattle.nb_format.specs.Snapshot.{record_bytes, snapshot_length, IsSnapshot, IsNoSnapshot};
-    ghost use Rattle.nb_format.specs.Reader.{file_of, count_of, time_of, read_count, IsAtStart, MayFollow, IsBehind, HasRead, IsFrontOf};
+    ghost use Rattle.nb_format.specs.Snapshot.{record_bytes, snapshot_length, IsSnapshot};
+    ghost use Rattle.nb_format.specs.SnapshotRefusal.{header_refusal, record_refusal, snapshot_refusal, IsOfHeader, IsOfRecord};
+    ghost use Rattle.nb_format.specs.Reader.{file_of, count_of, time_of, read_count, last_id, IsAtStart, MayFollow, IsBehind, HasRead, IsFrontOf, next_refusal};
 
-    /// Reads the header of the file. It only reads.
+    /// Reads the header of the file, or tells the first of its fields that is bad. It only reads.
     pub fn begin<H: Host>(host: &mut H, file: u64) -> Result<SnapReader, SnapError>
         requires { file ≤ LAST_FILE }
         ensures start { IfOk result (IsAtStart file) }
         ensures header { IfOk result (λ reader. IsTrue (H.tells host.old)
             → HasRead reader ((H.contents host.old).file file) []) }
-        ensures bad { result ≡ Err SnapError.Bad → IsTrue (H.tells host.old)
-            → IsNoSnapshot ((H.contents host.old).file file) }
+        ensures accepted { OnOk result (IsTrue (H.tells host.old)
+            → header_refusal ((H.contents host.old).file file) ≡ None) }
+        ensures refusal { IfErr result (λ e. IsTrue (H.tells host.old) → IsBySnapshot e
+            → header_refusal ((H.contents host.old).file file) ≡ Some e) }
+        ensures first { IfErr result (λ e. IsTrue (H.tells host.old) → IsBySnapshot e
+            → snapshot_refusal ((H.contents host.old).file file) ≡ Some e) }
+        ensures code { IfErr result (λ e. IsBySnapshot e → IsOfHeader e) }
         ensures same { H.contents host.new ≡ H.contents host.old }
         ensures told { H.tells host.new ≡ H.tells host.old }
         ensures faults { H.faults host.old ≤ H.faults host.new }
@@ -50,15 +57,13 @@ impl SnapReader {
     {
         let length = host.len(file)?;
         if length < HEADER_LENGTH as u64 {
-            return Err(SnapError::Bad);
+            return Err(SnapError::Short);
         }
         let mut bytes = [0; HEADER_LENGTH];
         read_whole(host, file, 0, &mut bytes)?;
-        let Some(Header { count, time }) = header::decode(&bytes) else {
-            return Err(SnapError::Bad);
-        };
+        let Header { count, time } = header::decode(&bytes)?;
         if length != snapshot_length(count) {
-            return Err(SnapError::Bad);
+            return Err(SnapError::Length);
         }
         Ok(SnapReader {
             file,
@@ -84,13 +89,26 @@ impl SnapReader {
         self.time
     }
 
-    /// The next body, or None after the last. After a refusal the reader is as it was. It only reads.
+    /// The next body, or None after the last, or the first field of the next record that is bad. Length
+    /// says that the file has become shorter and ends before that record's end. After a refusal the reader
+    /// is as it was. It only reads.
     pub fn next<H: Host>(&mut self, host: &mut H) -> Result<Option<Body>, SnapError>
         ensures end { (result ≡ Ok None) ↔ (read_count self.old ≡ count_of self.old) }
         ensures follows { IfOk result (λ found. IfSome found (MayFollow self.old)) }
         ensures moved { IfOk result (λ found. IfSome found (λ body. IsBehind body self.old self.new)) }
         ensures stays { result ≡ Ok None → self.new ≡ self.old }
         ensures refusal { OnErr result (self.new ≡ self.old) }
+        ensures code { IfErr result (λ e. IsBySnapshot e → IsOfRecord (read_count self.old) e) }
+
+        // What the file holds now, where the host tells.
+        ensures accepted { IfOk result (λ found. IfSome found (λ _. IsTrue (H.tells host.old)
+            → next_refusal self.old ((H.contents host.old).file (file_of self.old)) ≡ None)) }
+        ensures reason { IfErr result (λ e. IsTrue (H.tells host.old) → IsBySnapshot e
+            → next_refusal self.old ((H.contents host.old).file (file_of self.old)) ≡ Some e) }
+        ensures short { IsTrue (H.tells host.old) → read_count self.old < count_of self.old
+            → length ((H.contents host.old).file (file_of self.old))
+            < snapshot_length (read_count self.old + 1)
+            → OnOk result ⊥ }
 
         // What the file holds, where the host tells: `bytes` is what it held when `begin` read its header.
         ensures body { (bytes : List ℕ) (bodies : List Body) → IsTrue (H.tells host.old)
@@ -98,15 +116,14 @@ impl SnapReader {
             → IfOk result (λ found. IfSome found (λ body. HasRead self.new bytes (bodies ++ body ∷ []))) }
         ensures whole { (bytes : List ℕ) (bodies : List Body) → HasRead self.old bytes bodies
             → result ≡ Ok None → IsSnapshot bytes bodies (time_of self.old) }
-        ensures bad { (bytes : List ℕ) (bodies : List Body) → IsTrue (H.tells host.old)
+        ensures first { (bytes : List ℕ) (bodies : List Body) → IsTrue (H.tells host.old)
+            → HasRead self.old bytes bodies → (H.contents host.old).file (file_of self.old) ≡ bytes
+            → IfErr result (λ e. IsBySnapshot e → snapshot_refusal bytes ≡ Some e) }
+        ensures shorter { (bytes : List ℕ) (bodies : List Body) → IsTrue (H.tells host.old)
             → HasRead self.old bytes bodies → IsFrontOf bytes ((H.contents host.old).file (file_of self.old))
-            → result ≡ Err SnapError.Bad → IsNoSnapshot bytes
+            → IfErr result (λ e. IsBySnapshot e → (snapshot_refusal bytes ≡ Some e)
             ⊎ (length ((H.contents host.old).file (file_of self.old))
-            < snapshot_length (read_count self.old + 1)) }
-        ensures short { IsTrue (H.tells host.old) → read_count self.old < count_of self.old
-            → length ((H.contents host.old).file (file_of self.old))
-            < snapshot_length (read_count self.old + 1)
-            → OnOk result ⊥ }
+            < snapshot_length (read_count self.old + 1))) }
 
         ensures same { H.contents host.new ≡ H.contents host.old }
         ensures told { H.tells host.new ≡ H.tells host.old }
@@ -119,39 +136,50 @@ impl SnapReader {
         }
         let mut bytes = [0; RECORD_LENGTH];
         read_whole(host, self.file, snapshot_length(self.read), &mut bytes)?;
-        let Some(body) = self.follow(&bytes) else {
-            return Err(SnapError::Bad);
-        };
+        let body = self.follow(&bytes)?;
         self.read += 1;
         self.last = Some(body.id);
         Ok(Some(body))
     }
 
-    /// The body of a record, where it may follow those that were read.
-    fn follow(&self, bytes: &[u8; RECORD_LENGTH]) -> Option<Body>
-        ensures spelled { IfSome result (λ body. bytes.now ≡ record_bytes body) }
-        ensures follows { IfSome result (MayFollow self.now) }
-        ensures none { IfNone result ((body : Body) → MayFollow self.now body
-            → bytes.now ≢ record_bytes body) }
+    /// The body of a record, where it may follow those that were read, or the record's first bad field.
+    fn follow(&self, bytes: &[u8; RECORD_LENGTH]) -> Result<Body, SnapError>
+        ensures spelled { IfOk result (λ body. bytes.now ≡ record_bytes body) }
+        ensures follows { IfOk result (MayFollow self.now) }
+        ensures accepted { OnOk result (record_refusal (read_count self.now) (last_id self.now) bytes.now
+            ≡ None) }
+        ensures refusal { IfErr result (λ e. record_refusal (read_count self.now) (last_id self.now) bytes.now
+            ≡ Some e) }
+        ensures code { IfErr result (IsOfRecord (read_count self.now)) }
     {
         let fields = Fields::decode(bytes);
-        if let Some(last) = self.last {
-            if fields.id <= last {
-                return None;
-            }
+        if !self.rises(fields.id) {
+            return Err(SnapError::IdOrder(self.read));
         }
-        fields.body()
+        fields.body(self.read)
+    }
+
+    /// Whether the id is above that of the body that was read last, if there is one.
+    fn rises(&self, id: u64) -> bool
+        ensures { IsTrue result ↔ IfSome (last_id self.now) (λ last. last < id) }
+    {
+        match self.last {
+            None => true,
+            Some(last) => last < id,
+        }
     }
 }
 
-/// Fills all of `into` from a place of the file. It only reads; a file that ends before is Bad.
+/// Fills all of `into` from a place of the file, or answers Length where the file ends before. It only
+/// reads.
 fn read_whole<H: Host>(host: &mut H, file: u64, at: u64, into: &mut [u8]) -> Result<(), SnapError>
     requires number { file ≤ LAST_FILE }
     requires place { at + length into.old < PLACE_LIMIT }
     ensures read { OnOk result (IsTrue (H.tells host.old)
         → into.new ≡ readable at (length into.old) ((H.contents host.old).file file)) }
-    ensures bad { result ≡ Err SnapError.Bad → IsTrue (H.tells host.old)
+    ensures short { result ≡ Err SnapError.Length → IsTrue (H.tells host.old)
         → length ((H.contents host.old).file file) < at + length into.old }
+    ensures code { IfErr result (λ e. IsBySnapshot e → e ≡ SnapError.Length) }
     ensures same { H.contents host.new ≡ H.contents host.old }
     ensures told { H.tells host.new ≡ H.tells host.old }
     ensures faults { H.faults host.old ≤ H.faults host.new }
@@ -161,7 +189,7 @@ fn read_whole<H: Host>(host: &mut H, file: u64, at: u64, into: &mut [u8]) -> Res
     let wanted = into.len();
     let found = host.read_at(file, at, into)?;
     if found < wanted {
-        return Err(SnapError::Bad);
+        return Err(SnapError::Length);
     }
     Ok(())
 }

@@ -145,81 +145,122 @@ fn writes_bytes(rt: HostRuntime) -> Result<(), Fail> {
     Ok(())
 }
 
-/// Changes of one byte that leave `TWO` no snapshot: the byte's place, and its value.
-const BAD: [(usize, u8); 20] = [
-    // The gate is shut, the name is another, the count is one more and too great, a reserved byte isn't 0.
-    (0, 0),
-    (7, 0x32),
-    (8, 3),
-    (11, 1),
-    (24, 1),
-    (31, 1),
+/// Changes of `TWO`, each a byte's place and its value, and why it is no snapshot then.
+const BAD: [(&[(usize, u8)], SnapError); 35] = [
+    // The gate is shut, the name is another, the count is too great, a reserved byte isn't 0.
+    (&[(0, 0)], SnapError::Unfinished),
+    (&[(7, 0x32)], SnapError::Magic),
+    (&[(11, 1)], SnapError::Count),
+    (&[(24, 1)], SnapError::Zeros),
+    (&[(31, 1)], SnapError::Zeros),
+    // The count is one more, and one less.
+    (&[(8, 3)], SnapError::Length),
+    (&[(8, 1)], SnapError::Length),
     // The ids fall, and are equal.
-    (96, 6),
-    (96, 7),
+    (&[(96, 6)], SnapError::IdOrder(1)),
+    (&[(96, 7)], SnapError::IdOrder(1)),
+    (&[(32, 4), (96, 4)], SnapError::IdOrder(1)),
     // The mass is 0. The flag is 2, and more.
-    (40, 0),
-    (44, 2),
-    (47, 1),
+    (&[(40, 0)], SnapError::Mass(0)),
+    (
+        &[(104, 0), (105, 0), (106, 0), (107, 0)],
+        SnapError::Mass(1),
+    ),
+    (&[(44, 2)], SnapError::Flag(0)),
+    (&[(47, 1)], SnapError::Flag(0)),
+    (&[(108, 2)], SnapError::Flag(1)),
     // A coordinate is 2^40, also of a body that has left the box.
-    (53, 1),
-    (61, 1),
-    (69, 1),
-    (125, 1),
+    (&[(53, 1)], SnapError::Place(0)),
+    (&[(61, 1)], SnapError::Place(0)),
+    (&[(69, 1)], SnapError::Place(0)),
+    (&[(125, 1)], SnapError::Place(1)),
     // A speed in the box is above 2^61, is 2^61, is -2^61, and is below that.
-    (79, 0x20),
-    (87, 0x20),
-    (88, 0),
-    (95, 0x80),
-    (108, 0),
+    (&[(79, 0x20)], SnapError::Speed(0)),
+    (&[(87, 0x20)], SnapError::Speed(0)),
+    (&[(88, 0)], SnapError::Speed(0)),
+    (&[(95, 0x80)], SnapError::Speed(0)),
+    (&[(108, 0)], SnapError::Speed(1)),
+    // Of two bad fields the first counts: of the header,
+    (&[(7, 0x32), (0, 0)], SnapError::Unfinished),
+    (&[(11, 1), (7, 0x32)], SnapError::Magic),
+    (&[(24, 1), (11, 1)], SnapError::Count),
+    (&[(8, 3), (24, 1)], SnapError::Zeros),
+    // of the header and a record,
+    (&[(40, 0), (8, 3)], SnapError::Length),
+    // of a record,
+    (&[(108, 2), (96, 7)], SnapError::IdOrder(1)),
+    (&[(44, 2), (40, 0)], SnapError::Mass(0)),
+    (&[(53, 1), (44, 2)], SnapError::Flag(0)),
+    (&[(88, 0), (69, 1)], SnapError::Place(0)),
+    // and of two records.
+    (&[(96, 7), (88, 0)], SnapError::Speed(0)),
+    (&[(125, 1), (40, 0)], SnapError::Mass(0)),
 ];
 
-/// Changes of one byte that leave `TWO` a snapshot: ids of 0 and 2^64 - 2^56 + 9, and a speed of a body
-/// that is out.
+/// Changes that leave `TWO` a snapshot: ids of 0 and 2^64 - 2^56 + 9, and a speed of a body that is out.
 const GOOD: [(usize, u8); 3] = [(32, 0), (103, 0xff), (159, 0x20)];
 
-/// The place of the first of these changes of one byte with which `TWO` isn't read so.
-fn first_read_otherwise(
+/// How many bodies are read of `TWO` with these changes.
+fn changed_reads_as(
     alloc: Global,
     changes: &[(usize, u8)],
-    wanted: Result<usize, SnapError>,
-) -> Result<Option<usize>, Fail> {
+) -> Result<Result<usize, SnapError>, Fail> {
+    let mut bytes = TWO;
     for (at, byte) in changes {
-        let mut bytes = TWO;
         if *at < bytes.len() {
             bytes[*at] = *byte;
         }
-        if reads_as(alloc, &bytes)? != wanted {
-            return Ok(Some(*at));
-        }
     }
-    Ok(None)
-}
-
-/// The first of these lengths at which what is left of `TWO` is read.
-fn first_read_of_length(alloc: Global, lengths: &[usize]) -> Result<Option<usize>, Fail> {
-    for length in lengths {
-        let (front, _) = TWO.split_at((*length).min(160));
-        if reads_as(alloc, front)? != Err(SnapError::Bad) {
-            return Ok(Some(*length));
-        }
-    }
-    Ok(None)
+    reads_as(alloc, &bytes)
 }
 
 #[test]
-fn refuses_bytes(rt: HostRuntime) -> Result<(), Fail> {
-    let bad = Err(SnapError::Bad);
-    assert_eq!(rt; first_read_otherwise(rt.alloc(), &BAD, bad)?, None);
-    assert_eq!(rt; first_read_otherwise(rt.alloc(), &GOOD, Ok(2))?, None);
-    assert_eq!(rt;
-        first_read_of_length(rt.alloc(), &[0, 1, 31, 32, 33, 95, 96, 159])?,
-        None
-    );
-    assert_eq!(rt; first_read_of_length(rt.alloc(), &[160])?, Some(160));
+fn tells_the_first_bad_field(rt: HostRuntime) -> Result<(), Fail> {
+    for (changes, error) in &BAD {
+        assert_eq!(rt;
+            changed_reads_as(rt.alloc(), *changes)?,
+            Err(*error),
+            "{changes:?}"
+        );
+    }
+    for change in GOOD {
+        assert_eq!(rt;
+            changed_reads_as(rt.alloc(), &[change])?,
+            Ok(2),
+            "{change:?}"
+        );
+    }
+    Ok(())
+}
+
+/// Lengths of a front of `TWO`, and why it is no snapshot.
+const SHORTER: [(usize, SnapError); 8] = [
+    (0, SnapError::Short),
+    (1, SnapError::Short),
+    (31, SnapError::Short),
+    (32, SnapError::Length),
+    (33, SnapError::Length),
+    (95, SnapError::Length),
+    (96, SnapError::Length),
+    (159, SnapError::Length),
+];
+
+#[test]
+fn refuses_other_lengths(rt: HostRuntime) -> Result<(), Fail> {
+    for (length, error) in SHORTER {
+        let (front, _) = TWO.split_at(length.min(160));
+        assert_eq!(rt; reads_as(rt.alloc(), front)?, Err(error), "{length}");
+    }
     let mut longer = [0; 33];
     longer[..32].copy_from_slice(&EMPTY);
-    assert_eq!(rt; reads_as(rt.alloc(), &longer)?, bad);
+    assert_eq!(rt; reads_as(rt.alloc(), &longer)?, Err(SnapError::Length));
+    // A file that isn't there, one that is too short for its shut gate to count, and the one body without its
+    // last byte.
+    let mut host = MemoryHost::new(rt.alloc());
+    assert_eq!(rt; SnapReader::begin(&mut host, FILE), Err(SnapError::Short));
+    assert_eq!(rt; reads_as(rt.alloc(), &[0; 31])?, Err(SnapError::Short));
+    let (front, _) = ONE.split_at(95);
+    assert_eq!(rt; reads_as(rt.alloc(), front)?, Err(SnapError::Length));
     Ok(())
 }
 
@@ -271,7 +312,7 @@ fn a_refusal_leaves_the_reader(rt: HostRuntime) -> Result<(), Fail> {
     assert_eq!(rt; reader.next(&mut host), Err(SnapError::Fault));
     assert_eq!(rt; reader.next(&mut host)?, Some(SLOW));
     host.with_file(FILE, &ONE)?;
-    assert_eq!(rt; reader.next(&mut host), Err(SnapError::Bad));
+    assert_eq!(rt; reader.next(&mut host), Err(SnapError::Length));
     host.with_file(FILE, &TWO)?;
     assert_eq!(rt; reader.next(&mut host)?, Some(GONE));
     Ok(())

@@ -1,0 +1,11 @@
+use Rattle.std.proofs.Common.{◌≡◌, ◌+◌, ◌-◌, ◌≤◌, length, drop}
+use Rattle.std.specs.List.{prefix_len}
+use Rattle.nb_format.specs.ParamsText.{is_blank}
+use Rattle.nb_format.proofs.params_line.trim_start.Given as goal
+
+-- the bytes before `start` are blanks
+abbrev pub invariant-loop-start : goal.invariant-loop-start
+invariant-loop-start l = (l.start ≤ length l.text) × (prefix_len is_blank l.text ≡ l.start + prefix_len is_blank (drop l.start l.text))
+
+abbrev pub decreases-loop-start : goal.decreases-loop-start
+decreases-loop-start l = length l.text - l.start

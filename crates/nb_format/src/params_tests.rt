@@ -1,0 +1,174 @@
+//! Parameter texts that were written by hand, with what is read of each.
+
+use super::*;
+use nb_model::Params;
+use std::test::*;
+
+/// The parameters of the worked texts.
+const WORKED: Params = Params {
+    grav: 1000000000,
+    theta_num: 1,
+    theta_den: 2,
+    soft: 1,
+    leaf: 8,
+    every: 100,
+};
+
+const LEAST: Params = Params {
+    grav: 0,
+    theta_num: 0,
+    theta_den: 1,
+    soft: 1,
+    leaf: 1,
+    every: 1,
+};
+
+const GREATEST: Params = Params {
+    grav: 1152921504606846975,
+    theta_num: 32768,
+    theta_den: 32768,
+    soft: 1099511627775,
+    leaf: 32,
+    every: 1099511627776,
+};
+
+/// Texts that give parameters.
+const ACCEPTED: [(&str, Params); 6] = [
+    (
+        "grav = 1000000000\ntheta_num = 1\ntheta_den = 2\nsoft = 1\nleaf = 8\nevery = 100\n",
+        WORKED,
+    ),
+    (
+        "grav = 1000000000\ntheta_num = 1\ntheta_den = 2\nsoft = 1\nleaf = 8\nevery = 100",
+        WORKED,
+    ),
+    (
+        "# a comment\r\n\tgrav\t=\t1000000000\t\r\n theta_num=1 \r\ntheta_den = 2\r\n\
+        soft =1\r\n\r\nleaf= 8\r\nevery \t = 100\r\n",
+        WORKED,
+    ),
+    (
+        "\n\nevery=00000000000000000100\nleaf=8\n  # grav = x\nsoft=1\n\
+        theta_den=2\ntheta_num=1\ngrav=1000000000\n\n",
+        WORKED,
+    ),
+    (
+        "grav = 0\ntheta_num = 0\ntheta_den = 1\nsoft = 1\nleaf = 1\nevery = 1\n",
+        LEAST,
+    ),
+    (
+        "grav = 1152921504606846975\ntheta_num = 32768\ntheta_den = 32768\n\
+        soft = 1099511627775\nleaf = 32\nevery = 1099511627776\n",
+        GREATEST,
+    ),
+];
+
+/// Texts that are refused.
+const REFUSED: [(&str, ParamsError); 46] = [
+    // the worked texts, with one line changed or left out
+    (
+        "grav = 1000000000\ntheta_num = 1\ntheta_den = 2\nsoft = 1\nleaf = 8\n",
+        ParamsError::Missing(5),
+    ),
+    (
+        "grav = 1000000000\ntheta_num = 1\ngrav = 2\nsoft = 1\nleaf = 8\nevery = 100\n",
+        ParamsError::Twice(3),
+    ),
+    (
+        "grav = 1000000000\ntheta_num = 1\ntheta_den = 2\nsoft = 1\nleaf = 33\nevery = 100\n",
+        ParamsError::Range(5),
+    ),
+    (
+        "grav = 1000000000\ntheta = 1\ntheta_den = 2\nsoft = 1\nleaf = 8\nevery = 100\n",
+        ParamsError::Line(2),
+    ),
+    // nothing is set, or the first that is missing
+    ("", ParamsError::Missing(0)),
+    ("\n", ParamsError::Missing(0)),
+    (" \t\r\n# grav = 1\n", ParamsError::Missing(0)),
+    ("grav = 1\nevery = 1", ParamsError::Missing(1)),
+    (
+        "every = 1\nsoft = 1\ntheta_num = 1\ngrav = 1\n",
+        ParamsError::Missing(2),
+    ),
+    // no setting
+    ("=", ParamsError::Line(1)),
+    ("grav", ParamsError::Line(1)),
+    ("grav =", ParamsError::Line(1)),
+    ("= 1", ParamsError::Line(1)),
+    ("grav 1", ParamsError::Line(1)),
+    ("grav == 1", ParamsError::Line(1)),
+    ("grav = 1 2", ParamsError::Line(1)),
+    ("grav = 1 # a comment", ParamsError::Line(1)),
+    ("grav = -1", ParamsError::Line(1)),
+    ("grav = +1", ParamsError::Line(1)),
+    ("grav = 0x1", ParamsError::Line(1)),
+    ("Grav = 1", ParamsError::Line(1)),
+    ("gravity = 1", ParamsError::Line(1)),
+    ("theta num = 1", ParamsError::Line(1)),
+    ("\0", ParamsError::Line(1)),
+    ("grav = 1\0", ParamsError::Line(1)),
+    ("\u{b}grav = 1", ParamsError::Line(1)),
+    ("grav = 1\rsoft = 1", ParamsError::Line(1)),
+    ("grav = 1\n\n#\nsoft\n", ParamsError::Line(4)),
+    ("grav = 000000000000000000001", ParamsError::Line(1)),
+    // out of range
+    ("grav = 18446744073709551616", ParamsError::Range(1)),
+    ("grav = 99999999999999999999", ParamsError::Range(1)),
+    ("grav = 1152921504606846976", ParamsError::Range(1)),
+    ("theta_num = 32769", ParamsError::Range(1)),
+    ("theta_den = 0", ParamsError::Range(1)),
+    ("theta_den = 32769", ParamsError::Range(1)),
+    ("soft = 0", ParamsError::Range(1)),
+    ("soft = 1099511627776", ParamsError::Range(1)),
+    ("leaf = 0", ParamsError::Range(1)),
+    ("every = 0", ParamsError::Range(1)),
+    ("every = 1099511627777", ParamsError::Range(1)),
+    // the first faulty line, and within it the first fault
+    ("leaf = 8\nleaf = 8\n", ParamsError::Twice(2)),
+    ("leaf = 8\n\nleaf = 33\n", ParamsError::Twice(3)),
+    ("leaf = 8\nleaf = x\n", ParamsError::Line(2)),
+    ("leaf = 33\nsoft\n", ParamsError::Range(1)),
+    ("leaf = 8\nsoft\nleaf = 8\n", ParamsError::Line(2)),
+    (
+        "leaf = 8\nleaf = 99999999999999999999\n",
+        ParamsError::Twice(2),
+    ),
+];
+
+#[test]
+fn reads_parameters(rt: HostRuntime) -> Result<(), Fail> {
+    for (text, params) in ACCEPTED {
+        assert_eq!(rt; read_params(text.as_bytes()), Ok(params), "in {text:?}");
+    }
+    for (text, error) in REFUSED {
+        assert_eq!(rt; read_params(text.as_bytes()), Err(error), "in {text:?}");
+    }
+    let comment = vec![in rt.alloc(); b'#'; 65537]?;
+    assert_eq!(rt; read_params(&comment), Err(ParamsError::Long));
+    assert_eq!(rt; read_params(&comment[1..]), Err(ParamsError::Missing(0)));
+    Ok(())
+}
+
+/// Texts, with the numbers that they spell.
+const NUMBERS: [(&str, Option<u64>); 12] = [
+    ("0", Some(0)),
+    ("007", Some(7)),
+    ("9876543210", Some(9876543210)),
+    ("18446744073709551615", Some(18446744073709551615)),
+    ("00000000000000000001", Some(1)),
+    ("", None),
+    ("18446744073709551616", None),
+    ("000000000000000000001", None),
+    ("-5", None),
+    ("+5", None),
+    ("5 ", None),
+    ("5a", None),
+];
+
+#[test]
+fn reads_numbers(rt: HostRuntime) {
+    for (text, number) in NUMBERS {
+        assert_eq!(rt; number_of(text.as_bytes()), number, "in {text:?}");
+    }
+}
