@@ -1,10 +1,13 @@
 -- Which causes exclude each other.
-use Rattle.std.proofs.Common.{◌≡◌, inl, inr, ℕ, List, arith, refl, sym, subst, ◌∙◌}
-use Rattle.nb_model.specs.declared.body.Body.{Body}
+use Rattle.std.proofs.Common.{◌≡◌, ◌⊎◌, inl, inr, ℕ, List, refl, sym, ap, subst, ◌∙◌}
+use Rattle.nb_host.specs.Image.{Image}
 use Rattle.nb_format.proofs.Snapshots.{one_snapshot}
-use Rattle.nbody.specs.declared.status.TheConstants.{SNAPSHOT, NOT_BUILT}
+use Rattle.nb_format.proofs.SnapshotRefusals.{snapshot_none}
+use Rattle.nbody.specs.declared.refusal.Refusal.{Refusal}
+use Rattle.nbody.specs.declared.refusal.Refusal.TheVariants as refusal
 use Rattle.nbody.specs.Words.{IsOnce, IsNoCommand}
-use Rattle.nbody.specs.Once.{IsReady, IsBeyond, HasNoSnapshot, IsNotBuilt}
+use Rattle.nbody.specs.Refusal.{IsFree}
+use Rattle.nbody.specs.Once.{Start, HasStart, IsReady, IsRefused}
 use Rattle.nbody.specs.Answer.{HasCause}
 
 -- the words ask for one time only
@@ -12,63 +15,68 @@ pub one_target : {words : List (List ℕ)} {a b : ℕ} → IsOnce words a → Is
 one_target {words} {a} {b} first second =
     let p = first.1 in let q = second.1 in let r = first.2 in let s = second.2 in cc
 
--- the initial snapshot has one list and one time only
-pub one_ready : {files : ℕ → List ℕ} {a b : ℕ} {xs ys : List Body} {s t : ℕ} → IsReady files a xs s → IsReady files b ys t → (xs ≡ ys) × (s ≡ t)
-one_ready first second = one_snapshot first.snapshot second.snapshot
+same_start : (a b : Start) → a.params ≡ b.params → a.bodies ≡ b.bodies → a.time ≡ b.time → a ≡ b
+same_start a b params bodies time =
+    ap (λ p. record a { params = p }) params ∙ ap (λ xs. record b { bodies = xs; time = a.time }) bodies
+    ∙ ap (λ t. record b { time = t }) time
 
-not_beyond : {files : ℕ → List ℕ} {target : ℕ} {xs ys : List Body} {s t : ℕ} → IsReady files target xs s → IsBeyond files target ys t → ⊥
-not_beyond {files} {target} {xs} {ys} {s} {t} ready beyond =
-    let same = one_snapshot ready.snapshot beyond.snapshot in
-    let p = same.0 in let q = same.1 in let r = ready.takes in let n = beyond.refuses in cc
-
-pub not_unbuilt : {files : ℕ → List ℕ} {target : ℕ} {bodies : List Body} {time : ℕ} → IsReady files target bodies time → IsNotBuilt files target → ⊥
-not_unbuilt ready (inl params) = absurd (omega (arith, ready.no_params))
-not_unbuilt ready (inr beyond) = not_beyond ready beyond.2
-
-no_snapshot_not_unbuilt : {files : ℕ → List ℕ} {target : ℕ} → HasNoSnapshot files → IsNotBuilt files target → ⊥
-no_snapshot_not_unbuilt none (inl params) = absurd (omega (arith, none.no_params))
-no_snapshot_not_unbuilt none (inr beyond) = none.no_snapshot _ _ beyond.2.snapshot
+-- the files spell one start only
+pub one_start : {files : ℕ → List ℕ} {a b : Start} → HasStart files a → HasStart files b → a ≡ b
+one_start {files} {a} {b} first second =
+    let p = first.parameters in let q = second.parameters in
+    let params : a.params ≡ b.params = cc in
+    let same = one_snapshot first.snapshot second.snapshot in
+    same_start a b params same.0 same.1
 
 -- Where `once` can be done nothing else holds.
-pub no_cause : {words : List (List ℕ)} {files : ℕ → List ℕ} {target time status : ℕ} {bodies : List Body}
-    → IsOnce words target → IsReady files target bodies time → HasCause words files status → ⊥
+pub not_refused : {files : ℕ → List ℕ} {target : ℕ} {start : Start} {why : Refusal} → IsReady files target start → IsRefused files target why → ⊥
+not_refused ready (inl none) = let p = ready.starts.parameters in let q = none.1.refused in cc
+not_refused ready (inr (inl none)) =
+    let p = snapshot_none _ _ _ ready.starts.snapshot in let q = none.2.refused in cc
+not_refused ready (inr (inr beyond)) =
+    let same = one_start ready.starts beyond.1.starts in let p = ready.takes in let q = beyond.1.refused in cc
+
+pub no_cause : {words : List (List ℕ)} {files : ℕ → List ℕ} {target : ℕ} {start : Start} {why : Refusal}
+    → IsOnce words target → IsReady files target start → HasCause words files why → ⊥
 no_cause {target = target} once ready (inl none) = none.1 target once
-no_cause {files = files} once ready (inr (inl unbuilt)) =
-    let P : ℕ → Type 0 = λ t. IsNotBuilt files t in
-    not_unbuilt ready (subst P (one_target unbuilt.2 once) unbuilt.3)
-no_cause once ready (inr (inr none)) = none.3.no_snapshot _ _ ready.snapshot
+no_cause {files = files} {why = why} once ready (inr refused) =
+    let P : ℕ → Type 0 = λ t. IsRefused files t why in not_refused ready (subst P (one_target refused.1 once) refused.2)
 
 -- Two causes don't hold together.
-pub one_cause : {words : List (List ℕ)} {files : ℕ → List ℕ} {a b : ℕ} → HasCause words files a → HasCause words files b → a ≡ b
+one_refusal : {files : ℕ → List ℕ} {target : ℕ} {a b : Refusal} → IsRefused files target a → IsRefused files target b → a ≡ b
+one_refusal (inl first) (inl second) = let p = first.1.refused in let q = second.1.refused in let r = first.2 in let s = second.2 in cc
+one_refusal (inl first) (inr (inl second)) = let p = first.1.refused in let q = second.2.parameters in absurd (cc)
+one_refusal (inl first) (inr (inr second)) = let p = first.1.refused in let q = second.1.starts.parameters in absurd (cc)
+one_refusal (inr (inl first)) (inl second) = let p = first.2.parameters in let q = second.1.refused in absurd (cc)
+one_refusal (inr (inl first)) (inr (inl second)) = let p = first.2.refused in let q = second.2.refused in let r = first.3 in let s = second.3 in cc
+one_refusal (inr (inl first)) (inr (inr second)) =
+    let p = first.2.refused in let q = snapshot_none _ _ _ second.1.starts.snapshot in absurd (cc)
+one_refusal (inr (inr first)) (inl second) = let p = first.1.starts.parameters in let q = second.1.refused in absurd (cc)
+one_refusal (inr (inr first)) (inr (inl second)) =
+    let p = snapshot_none _ _ _ first.1.starts.snapshot in let q = second.2.refused in absurd (cc)
+one_refusal (inr (inr first)) (inr (inr second)) =
+    let same = one_start first.1.starts second.1.starts in let p = first.1.refused in let q = second.1.refused in cc
+
+pub one_cause : {words : List (List ℕ)} {files : ℕ → List ℕ} {a b : Refusal} → HasCause words files a → HasCause words files b → a ≡ b
 one_cause (inl first) (inl second) = first.0 ∙ sym second.0
-one_cause (inl first) (inr (inl second)) = absurd (first.1 _ second.2)
-one_cause (inl first) (inr (inr second)) = absurd (first.1 _ second.2)
-one_cause (inr (inl first)) (inl second) = absurd (second.1 _ first.2)
-one_cause (inr (inl first)) (inr (inl second)) = first.0 ∙ sym second.0
-one_cause (inr (inl first)) (inr (inr second)) = absurd (no_snapshot_not_unbuilt second.3 first.3)
-one_cause (inr (inr first)) (inl second) = absurd (second.1 _ first.2)
-one_cause (inr (inr first)) (inr (inl second)) = absurd (no_snapshot_not_unbuilt first.3 second.3)
-one_cause (inr (inr first)) (inr (inr second)) = first.0 ∙ sym second.0
+one_cause (inl first) (inr second) = absurd (first.1 _ second.1)
+one_cause (inr first) (inl second) = absurd (second.1 _ first.1)
+one_cause {files = files} {a = a} (inr first) (inr second) =
+    let P : ℕ → Type 0 = λ t. IsRefused files t a in one_refusal (subst P (one_target first.1 second.1) first.2) second.2
 
 -- A run of a command isn't refused for its words.
 pub words_of_command : {words : List (List ℕ)} {target : ℕ} {Refused : Type 0} → IsOnce words target → (Refused → ⊥)
     → (Refused → IsNoCommand words) × (IsNoCommand words → Refused)
 words_of_command {target = target} once never = (λ refused. absurd (never refused), λ none. absurd (none target once))
 
--- what the causes are, for words that ask for this time
-pub unbuilt_cause : {words : List (List ℕ)} {files : ℕ → List ℕ} {target : ℕ} → IsOnce words target → IsNotBuilt files target → HasCause words files NOT_BUILT
-unbuilt_cause {target = target} once unbuilt = inr (inl (refl, target, once, unbuilt))
+-- the cause of a command's refusal, for the words that ask for it
+pub cause_of_command : {words : List (List ℕ)} {files : ℕ → List ℕ} {target : ℕ} {why : Refusal} → IsOnce words target
+    → IsFree why ⊎ IsRefused files target why → HasCause words files why ⊎ IsFree why
+cause_of_command once (inl free) = inr free
+cause_of_command {target = target} once (inr refused) = inl (inr (target, once, refused))
 
-pub cause_unbuilt : {words : List (List ℕ)} {files : ℕ → List ℕ} {target : ℕ} → IsOnce words target → HasCause words files NOT_BUILT → IsNotBuilt files target
-cause_unbuilt once (inl none) = absurd (omega (arith, none.0))
-cause_unbuilt {files = files} once (inr (inl unbuilt)) =
-    let P : ℕ → Type 0 = λ t. IsNotBuilt files t in subst P (one_target unbuilt.2 once) unbuilt.3
-cause_unbuilt once (inr (inr none)) = absurd (omega (arith, none.0))
-
-pub no_snapshot_cause : {words : List (List ℕ)} {files : ℕ → List ℕ} {target : ℕ} → IsOnce words target → HasNoSnapshot files → HasCause words files SNAPSHOT
-no_snapshot_cause {target = target} once none = inr (inr (refl, target, once, none))
-
-pub cause_no_snapshot : {words : List (List ℕ)} {files : ℕ → List ℕ} → HasCause words files SNAPSHOT → HasNoSnapshot files
-cause_no_snapshot (inl none) = absurd (omega (arith, none.0))
-cause_no_snapshot (inr (inl unbuilt)) = absurd (omega (arith, unbuilt.0))
-cause_no_snapshot (inr (inr none)) = none.3
+-- the cause that a command met in an image that is as before
+pub cause_still : {old now : Image} {target : ℕ} {why : Refusal} → now ≡ old → IsFree why ⊎ IsRefused now.file target why
+    → IsFree why ⊎ IsRefused old.file target why
+cause_still {target = target} {why = why} same cause =
+    let P : Image → Type 0 = λ image. IsFree why ⊎ IsRefused image.file target why in subst P same cause

@@ -1,10 +1,9 @@
-mod Digits
 mod WordLists
 mod Ids
 mod Reading
 mod Writing
 mod Ticks
-mod Taking
+mod Starts
 mod Causes
 mod Runs
 mod Statuses

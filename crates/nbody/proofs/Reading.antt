@@ -1,12 +1,14 @@
 -- What a snapshot reader has given so far.
-use Rattle.std.proofs.Common.{◌≡◌, ◌≢◌, ◌⊎◌, inl, inr, ℕ, ◌+◌, ◌<◌, ◌≤◌, List, [], ◌∷◌, ◌++◌, length, length-append, refl, sym, ap, subst, ◌∙◌, arith, IsTrue, Bool, Option, Some, None, Result, Ok}
+use Rattle.std.proofs.Common.{◌≡◌, ◌≢◌, ℕ, ◌+◌, ◌<◌, ◌≤◌, List, [], ◌∷◌, ◌++◌, length, length-append, refl, sym, ap, subst, ◌∙◌, arith, IsTrue, Bool, Option, Some, None, Result, Ok}
 use Rattle.std.specs.Prelude.{IfSome}
 use Rattle.std.proofs.lemmas.List.{take_all}
 use Rattle.nb_model.specs.declared.body.Body.{Body}
 use Rattle.nb_model.specs.Limits.{most_bodies}
 use Rattle.nb_host.specs.Image.{Image}
+use Rattle.nb_format.specs.declared.snap_error.SnapError.{SnapError}
 use Rattle.nb_format.specs.declared.snap_reader.SnapReader.{SnapReader}
-use Rattle.nb_format.specs.Snapshot.{snapshot_length, AreStoredBodies, IsNoSnapshot}
+use Rattle.nb_format.specs.Snapshot.{AreStoredBodies}
+use Rattle.nb_format.specs.SnapshotRefusal.{snapshot_refusal, IsBySnapshot}
 use Rattle.nb_format.specs.Reader.{file_of, count_of, time_of, read_count, last_id, last_of, IsAtStart, MayFollow, IsBehind, HasRead, IsFrontOf}
 use Rattle.nb_format.proofs.Reading.{last_of-push, stored-push}
 
@@ -56,25 +58,12 @@ HasGiven-more {tells} {bytes} {start} {reader} {next} {bodies} {body} given unen
 pub IsFrontOf-same : {bytes : List ℕ} (now : List ℕ) → bytes ≡ now → IsFrontOf bytes now
 IsFrontOf-same {bytes} now same = (length bytes, sym (take_all (length bytes) bytes (omega arith) ∙ same))
 
--- A file that a reader refuses, and that hasn't become shorter, is no snapshot.
-pub IsNoSnapshot-bad : (bytes : List ℕ) (reader : SnapReader) (bodies : List Body) → HasRead reader bytes bodies
-    → read_count reader < count_of reader
-    → IsNoSnapshot bytes ⊎ (length bytes < snapshot_length (read_count reader + 1)) → IsNoSnapshot bytes
-IsNoSnapshot-bad bytes reader bodies has unended (inl none) = none
-IsNoSnapshot-bad bytes reader bodies has unended (inr short) = absurd (omega (arith, has.whole))
-
 pub file-same : {old now : Image} {first second : ℕ} → now ≡ old → first ≡ second → now.file first ≡ old.file second
 file-same {old} {now} {first} {second} same number = ap (λ (image : Image). image.file first) same ∙ ap old.file number
 
-pub IsNoSnapshot-refused : {tells : Bool} {bytes : List ℕ} {start reader : SnapReader} {bodies : List Body} (now : List ℕ)
-    → now ≡ bytes → HasGiven tells bytes start reader bodies → IsTrue tells → HasRead start bytes []
-    → read_count reader ≢ count_of reader
-    → (HasRead reader bytes bodies → IsFrontOf bytes now → IsNoSnapshot bytes ⊎ (length now < snapshot_length (read_count reader + 1)))
-    → IsNoSnapshot bytes
-IsNoSnapshot-refused {tells} {bytes} {start} {reader} {bodies} now same given told begun unended refused =
-    let read = given.has told begun in
-    let Q : List ℕ → Type 0 = λ file. IsNoSnapshot bytes ⊎ (length file < snapshot_length (read_count reader + 1)) in
-    IsNoSnapshot-bad bytes reader bodies read (omega arith) (subst Q same (refused read (IsFrontOf-same now (sym same))))
+-- why a reader of a file that begins with these bytes refuses it
+abbrev pub IsBad : Bool → SnapReader → List ℕ → SnapError → Type 0
+IsBad tells start bytes error = IsBySnapshot error → IsTrue tells → HasRead start bytes [] → snapshot_refusal bytes ≡ Some error
 
 -- An answer with a body isn't the end.
 pub not_ended : {X E : Type 0} {found : Option X} {x : X} → found ≡ Some x

@@ -1,37 +1,36 @@
 -- What a run of `once` has changed, by its steps.
-use Rattle.std.proofs.Common.{◌≡◌, ◌⊎◌, inl, inr, ℕ, ◌-◌, List, ◌++◌, take, ap, sym, subst, ◌∙◌, arith}
+use Rattle.std.proofs.Common.{◌≡◌, ◌⊎◌, inl, inr, ℕ, List, ◌++◌, take, ap, sym, subst, ◌∙◌, arith}
 use Rattle.std.proofs.lemmas.List.{append-nil}
-use Rattle.nb_model.specs.declared.body.Body.{Body}
 use Rattle.nb_model.specs.Leapfrog.{escaped_count}
 use Rattle.nb_host.specs.declared.host.Channel.{Channel}
 use Rattle.nb_host.specs.declared.host.Channel.TheVariants as channels
 use Rattle.nb_host.specs.Image.{Image, FileBecomes, SaysPart}
+use Rattle.nb_format.specs.Lines.{once_line}
 use Rattle.nb_format.specs.Snapshot.{IsSnapshot}
 use Rattle.nb_format.specs.Writer.{IsFinishedAs}
 use Rattle.nbody.specs.declared.once.Done.{Done}
-use Rattle.nbody.specs.Lines.{once_line}
-use Rattle.nbody.specs.Once.{once_file, list_at, IsReady}
+use Rattle.nbody.specs.Once.{once_file, Start, ticks_to, list_at, IsReady}
 use Rattle.nbody.specs.Done.{TellsOf, BecomesAny}
 use Rattle.nbody.specs.Answer.{SaidFrontOf, IsWithin}
 
 Out≢Err : ◌≡◌ {A = Channel} channels.Err channels.Out → ⊥
 Out≢Err same = cc
 
--- the line of these bodies at the target
-abbrev line_at : ℕ → List Body → ℕ → List ℕ
-line_at target bodies time = once_line target (target - time) (escaped_count (list_at target bodies time))
+-- the line of a start at the target
+abbrev line_at : ℕ → Start → List ℕ
+line_at target start = once_line target (ticks_to target start) (escaped_count (list_at target start))
 
--- the line that was made of the answer is that of the bodies
-pub line_of-answer : {target time : ℕ} {bodies : List Body} {done : Done} (line : List ℕ) → line ≡ once_line done.time done.ticks done.escaped
-    → TellsOf target bodies time done → line ≡ line_at target bodies time
-line_of-answer {target} {time} {bodies} {done} line is tells =
+-- the line that was made of the answer is that of the start
+line_of-answer : {target : ℕ} {start : Start} {done : Done} (line : List ℕ) → line ≡ once_line done.time done.ticks done.escaped
+    → TellsOf target start done → line ≡ line_at target start
+line_of-answer {target} {start} {done} line is tells =
     is ∙ ap (λ (t : ℕ). once_line t done.ticks done.escaped) tells.time ∙ ap (λ (k : ℕ). once_line target k done.escaped) tells.ticks
-    ∙ ap (λ (n : ℕ). once_line target (target - time) n) tells.escaped
+    ∙ ap (λ (n : ℕ). once_line target (ticks_to target start) n) tells.escaped
 
 -- only the file was changed
-pub within_file : {P : List ℕ → List ℕ → Type 0} {target time : ℕ} {bodies : List Body} {old now : Image}
-    → FileBecomes once_file P old now → IsWithin target bodies time old now
-within_file {target = target} {time = time} {bodies = bodies} {old = old} {now = now} changed =
+pub within_file : {P : List ℕ → List ℕ → Type 0} {target : ℕ} {start : Start} {old now : Image}
+    → FileBecomes once_file P old now → IsWithin target start old now
+within_file {old = old} {now = now} changed =
     let out : now.said channels.Out ≡ old.said channels.Out = ap (λ (f : Channel → List ℕ). f channels.Out) changed.said in
     record {
       others = changed.others;
@@ -41,12 +40,12 @@ within_file {target = target} {time = time} {bodies = bodies} {old = old} {now =
     }
 
 -- the file was written, and a front of the line said
-pub within_said : {target time : ℕ} {bodies : List Body} {old middle now : Image} (line : List ℕ) → line ≡ line_at target bodies time
-    → FileBecomes once_file (IsFinishedAs (list_at target bodies time) target) old middle → SaysPart channels.Out line middle now
-    → IsWithin target bodies time old now
-within_said {target} {time} {bodies} {old} {middle} {now} line is written part =
+within_said : {target : ℕ} {start : Start} {old middle now : Image} (line : List ℕ) → line ≡ line_at target start
+    → FileBecomes once_file (IsFinishedAs (list_at target start) target) old middle → SaysPart channels.Out line middle now
+    → IsWithin target start old now
+within_said {target} {start} {old} {middle} {now} line is written part =
     let P : List ℕ → Type 0 = λ text. SaidFrontOf text (old.said channels.Out) (now.said channels.Out) in
-    let Q : (ℕ → List ℕ) → Type 0 = λ files. IsSnapshot (files once_file) (list_at target bodies time) target in
+    let Q : (ℕ → List ℕ) → Type 0 = λ files. IsSnapshot (files once_file) (list_at target start) target in
     let out : middle.said channels.Out ≡ old.said channels.Out = ap (λ (f : Channel → List ℕ). f channels.Out) written.said in
     record {
       others = λ number spared. ap (λ (f : ℕ → List ℕ). f number) part.2.files ∙ written.others number spared;
@@ -57,22 +56,22 @@ within_said {target} {time} {bodies} {old} {middle} {now} line is written part =
 
 -- what a run of `once` may have changed, from what it left after its sync
 abbrev pub IsTouched : ℕ → Image → Image → Type 0
-IsTouched target old now = (now ≡ old) ⊎ ((bodies : List Body) × (time : ℕ) × IsReady old.file target bodies time × IsWithin target bodies time old now)
+IsTouched target old now = (now ≡ old) ⊎ ((start : Start) × IsReady old.file target start × IsWithin target start old now)
 
 pub touched_by_file : {target : ℕ} {old middle now : Image} → middle ≡ old
-    → (now ≡ middle) ⊎ ((bodies : List Body) × (time : ℕ) × IsReady middle.file target bodies time × FileBecomes once_file BecomesAny middle now)
+    → (now ≡ middle) ⊎ ((start : Start) × IsReady middle.file target start × FileBecomes once_file BecomesAny middle now)
     → IsTouched target old now
 touched_by_file same (inl none) = inl (none ∙ same)
 touched_by_file {target} {old} {middle} {now} same (inr some) =
-    let P : Image → Type 0 = λ image. IsReady image.file target some.0 some.1 in
+    let P : Image → Type 0 = λ image. IsReady image.file target some.0 in
     let Q : Image → Type 0 = λ image. FileBecomes once_file BecomesAny image now in
-    inr (some.0, some.1, subst P same some.2, within_file (subst Q same some.3))
+    inr (some.0, subst P same some.1, within_file (subst Q same some.2))
 
 pub touched_by_line : {target : ℕ} {old middle written now : Image} {done : Done} (line : List ℕ) → middle ≡ old
-    → ((bodies : List Body) × (time : ℕ) × IsReady middle.file target bodies time × TellsOf target bodies time done
-    × FileBecomes once_file (IsFinishedAs (list_at target bodies time) target) middle written)
+    → ((start : Start) × IsReady middle.file target start × TellsOf target start done
+    × FileBecomes once_file (IsFinishedAs (list_at target start) target) middle written)
     → line ≡ once_line done.time done.ticks done.escaped → SaysPart channels.Out line written now → IsTouched target old now
 touched_by_line {target} {old} {middle} {written} {now} {done} line same some is part =
-    let P : Image → Type 0 = λ image. IsReady image.file target some.0 some.1 in
-    let Q : Image → Type 0 = λ image. FileBecomes once_file (IsFinishedAs (list_at target some.0 some.1) target) image written in
-    inr (some.0, some.1, subst P same some.2, within_said line (line_of-answer line is some.3) (subst Q same some.4) part)
+    let P : Image → Type 0 = λ image. IsReady image.file target some.0 in
+    let Q : Image → Type 0 = λ image. FileBecomes once_file (IsFinishedAs (list_at target some.0) target) image written in
+    inr (some.0, subst P same some.1, within_said line (line_of-answer line is some.2) (subst Q same some.3) part)

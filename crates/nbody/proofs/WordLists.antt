@@ -3,7 +3,8 @@ use Rattle.std.proofs.Common.{◌≡◌, ℕ, ◌<◌, ◌≤◌, List, [], ◌�
 use Rattle.std.specs.Cmp.Lexicographic.{same_text}
 use lib.Pointwise.{pointwise}
 use lib.Dec.{eqb}
-use Rattle.nbody.specs.Words.{number_of, IsOnce}
+use Rattle.nb_format.specs.Digits.{number_of}
+use Rattle.nbody.specs.Words.{IsOnce}
 
 pub map-two : {A B : Type 0} (f : A → B) (xs : List A) (d : A) → 2 ≤ length xs → length xs < 3
     → map f xs ≡ f (get_or xs 0 d) ∷ f (get_or xs 1 d) ∷ []

@@ -1,15 +1,14 @@
 -- What the command `once` answers, and what it leaves.
-use Rattle.std.specs.Prelude.{◌≡◌, ℕ, ◌-◌, List, ⊤}
-use Rattle.nb_model.specs.declared.body.Body.{Body}
+use Rattle.std.specs.Prelude.{◌≡◌, ℕ, List, ⊤}
 use Rattle.nb_model.specs.Leapfrog.{escaped_count}
 use Rattle.nbody.specs.declared.once.Done.{Done}
-use Rattle.nbody.specs.Once.{list_at}
+use Rattle.nbody.specs.Once.{Start, ticks_to, list_at}
 
--- The answer tells the target, the ticks from the beginning to it, and how many bodies have left the box there.
-pub record TellsOf (target : ℕ) (bodies : List Body) (begin : ℕ) (done : Done) : Type 0 where
+-- The answer tells the target, the ticks from the start to it, and how many bodies have left the box there.
+pub record TellsOf (target : ℕ) (start : Start) (done : Done) : Type 0 where
   pub time : done.time ≡ target
-  pub ticks : done.ticks ≡ target - begin
-  pub escaped : done.escaped ≡ escaped_count (list_at target bodies begin)
+  pub ticks : done.ticks ≡ ticks_to target start
+  pub escaped : done.escaped ≡ escaped_count (list_at target start)
 
 -- A file may become anything.
 abbrev pub BecomesAny : List ℕ → List ℕ → Type 0

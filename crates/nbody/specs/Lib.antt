@@ -1,5 +1,4 @@
 pub mod Words
-pub mod Lines
 pub mod Refusal
 pub mod Once
 pub mod Done

@@ -1,11 +1,18 @@
 -- The command `once`: which files it takes, what it makes of them, and when it refuses.
-use Rattle.std.specs.Prelude.{◌≡◌, ◌⊎◌, ℕ, ◌+◌, ◌-◌, ◌*◌, ◌<◌, Bool, true, false, ◌&&◌, ◌||◌, ◌==◌, nat_le, nat_lt, List, length}
+use Rattle.std.specs.Prelude.{◌≡◌, ◌⊎◌, ℕ, ◌+◌, ◌-◌, ◌*◌, nat_le, nat_lt, if◌then◌else◌, Option, None, Some, Ok, Err, List, length}
 use Rattle.nb_model.specs.declared.body.Body.{Body}
 use Rattle.nb_model.specs.declared.params.Params.{Params}
-use Rattle.nb_model.specs.Limits.{weight_limit}
+use Rattle.nb_model.specs.Limits.{weight_limit, most_ticks}
 use Rattle.nb_model.specs.Octree.{total_mass}
-use Rattle.nb_model.specs.Leapfrog.{forward_steps}
-use Rattle.nb_format.specs.Snapshot.{IsSnapshot, IsNoSnapshot}
+use Rattle.nb_model.specs.Leapfrog.{steps}
+use Rattle.nb_model.specs.Legs.{directions_to}
+use Rattle.nb_format.specs.declared.params_error.ParamsError.{ParamsError}
+use Rattle.nb_format.specs.declared.snap_error.SnapError.{SnapError}
+use Rattle.nb_format.specs.ParamsText.{params_of}
+use Rattle.nb_format.specs.Snapshot.{IsSnapshot}
+use Rattle.nb_format.specs.SnapshotRefusal.{snapshot_refusal}
+use Rattle.nbody.specs.declared.refusal.Refusal.{Refusal}
+use Rattle.nbody.specs.declared.refusal.Refusal.TheVariants as refusal
 
 -- the number of the file `params`
 abbrev pub params_file : ℕ
@@ -23,38 +30,56 @@ once_file = 8
 abbrev pub most_once_bodies : ℕ
 most_once_bodies = 4096
 
--- the parameters of this program, which reads none yet
-abbrev pub built_in_params : Params
-built_in_params = record { grav = 1000000000; theta_num = 1; theta_den = 2; soft = 1; leaf = 8; every = 100 }
+-- what a run begins with: its parameters, and the bodies at a time
+pub record Start : Type 0 where
+  pub params : Params
+  pub bodies : List Body
+  pub time : ℕ
 
--- whether `once` can take these bodies from this time to the target: there are few enough, they aren't too heavy, and the
--- target is the time or one tick after it
-abbrev pub can_take : ℕ → List Body → ℕ → Bool
-can_take target bodies time =
-    nat_le (length bodies) most_once_bodies && nat_lt (built_in_params.grav * total_mass bodies) weight_limit
-    && (target == time || target == time + 1)
+-- The parameter text and the initial snapshot spell this start.
+pub record HasStart (files : ℕ → List ℕ) (start : Start) : Type 0 where
+  pub parameters : params_of (files params_file) ≡ Ok start.params
+  pub snapshot : IsSnapshot (files init_file) start.bodies start.time
+
+-- the ticks from the start to the target, forward or back
+abbrev pub ticks_to : ℕ → Start → ℕ
+ticks_to target start = (target - start.time) + (start.time - target)
 
 -- the list at the target
-abbrev pub list_at : ℕ → List Body → ℕ → List Body
-list_at target bodies time = forward_steps built_in_params (target - time) bodies
+abbrev pub list_at : ℕ → Start → List Body
+list_at target start = steps start.params (directions_to start.time target) start.bodies
 
--- `once` can be done: there are no parameters, and the initial snapshot has these bodies at this time, which it can take.
-pub record IsReady (files : ℕ → List ℕ) (target : ℕ) (bodies : List Body) (time : ℕ) : Type 0 where
-  pub no_params : length (files params_file) ≡ 0
-  pub snapshot : IsSnapshot (files init_file) bodies time
-  pub takes : can_take target bodies time ≡ true
+-- the refusal of a start that `once` doesn't take to the target
+abbrev pub start_refusal : ℕ → Start → Option Refusal
+start_refusal target start =
+    if nat_lt most_once_bodies (length start.bodies) then Some (refusal.TooMany (length start.bodies))
+    else (if nat_le weight_limit (start.params.grav * total_mass start.bodies) then Some (refusal.TooHeavy start.params.grav (total_mass start.bodies))
+    else (if nat_lt most_ticks (ticks_to target start) then Some (refusal.TickLimit (ticks_to target start))
+    else None))
+
+-- `once` can be done: the files spell this start, which it takes to the target.
+pub record IsReady (files : ℕ → List ℕ) (target : ℕ) (start : Start) : Type 0 where
+  pub starts : HasStart files start
+  pub takes : start_refusal target start ≡ None
+
+-- It can't, since the parameter text is none.
+pub record HasNoParams (files : ℕ → List ℕ) (error : ParamsError) : Type 0 where
+  pub refused : params_of (files params_file) ≡ Err error
 
 -- It can't, since the initial snapshot is none.
-pub record HasNoSnapshot (files : ℕ → List ℕ) : Type 0 where
-  pub no_params : length (files params_file) ≡ 0
-  pub no_snapshot : IsNoSnapshot (files init_file)
+pub record HasNoSnapshot (files : ℕ → List ℕ) (params : Params) (error : SnapError) : Type 0 where
+  pub parameters : params_of (files params_file) ≡ Ok params
+  pub refused : snapshot_refusal (files init_file) ≡ Some error
 
--- It can't, since the initial snapshot has bodies or a time that it doesn't take.
-pub record IsBeyond (files : ℕ → List ℕ) (target : ℕ) (bodies : List Body) (time : ℕ) : Type 0 where
-  pub no_params : length (files params_file) ≡ 0
-  pub snapshot : IsSnapshot (files init_file) bodies time
-  pub refuses : can_take target bodies time ≡ false
+-- It can't, since it doesn't take the start to the target.
+pub record IsNotTaken (files : ℕ → List ℕ) (target : ℕ) (start : Start) (why : Refusal) : Type 0 where
+  pub starts : HasStart files start
+  pub refused : start_refusal target start ≡ Some why
 
--- It can't, since it would have to do what isn't built yet: read parameters, or take such bodies or such a time.
-abbrev pub IsNotBuilt : (ℕ → List ℕ) → ℕ → Type 0
-IsNotBuilt files target = (0 < length (files params_file)) ⊎ ((bodies : List Body) × (time : ℕ) × IsBeyond files target bodies time)
+-- The first cause, in this order, for which `once` refuses by what its files hold: the parameter text, the snapshot, and
+-- what they spell.
+abbrev pub IsRefused : (ℕ → List ℕ) → ℕ → Refusal → Type 0
+IsRefused files target why =
+    ((error : ParamsError) × HasNoParams files error × (why ≡ refusal.Params error))
+    ⊎ ((params : Params) × (error : SnapError) × HasNoSnapshot files params error × (why ≡ refusal.Snapshot error))
+    ⊎ ((start : Start) × IsNotTaken files target start why)

@@ -3,10 +3,11 @@
 
 mod folder;
 mod folder_host;
-mod lines;
+mod init_file;
 mod names;
 mod once;
 mod open_files;
+mod params_file;
 mod program;
 mod refusal;
 mod status;

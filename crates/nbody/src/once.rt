@@ -1,46 +1,33 @@
 //! The command `once`: the bodies of the initial snapshot at another time.
 
-ghost use Rattle.std.specs.Prelude.{◌≡◌, ◌≢◌, ◌⊎◌, ℕ, ◌+◌, ◌-◌, ◌*◌, ◌<◌, ◌≤◌, IsTrue, IfOk, OnOk, List, [], length};
-ghost use Rattle.nb_model.specs.declared.body.Body.{Body};
+ghost use Rattle.std.specs.Prelude.{◌≡◌, ◌≢◌, ◌⊎◌, ℕ, ◌+◌, ◌-◌, ◌<◌, ◌≤◌, IsTrue, IfOk, IfErr, OnOk, length, map, replicate, All};
+ghost use Rattle.std.specs.List.Sorted.{IsStrictlyIncreasing};
 ghost use Rattle.nb_model.specs.Octree.{total_mass as mass_of};
-ghost use Rattle.nb_model.specs.Leapfrog.{escaped_count as count_of_escaped, forward_steps};
-ghost use Rattle.nb_model.specs.Valid.{IsValidBodies};
+ghost use Rattle.nb_model.specs.Leapfrog.{escaped_count as count_of_escaped, steps};
+ghost use Rattle.nb_model.specs.Legs.{directions_to};
+ghost use Rattle.nb_model.specs.Limits.{most_bodies};
+ghost use Rattle.nb_model.specs.Valid.{AreInRange, IsValidBody, IsValidBodies};
 ghost use Rattle.nb_host.specs.Faults.{Rose, CountsFault};
 ghost use Rattle.nb_host.specs.Image.{FileBecomes};
-ghost use Rattle.nb_format.specs.Snapshot.{AreStoredBodies, IsSnapshot, IsNoSnapshot};
-ghost use Rattle.nb_format.specs.Reader.{count_of, time_of, IsAtStart, HasRead};
 ghost use Rattle.nb_format.specs.Writer.{IsFinishedAs};
-ghost use Rattle.nbody.specs.Once.{init_file, once_file, most_once_bodies, built_in_params, can_take as is_taken, list_at, IsReady, HasNoSnapshot, IsNotBuilt};
+ghost use Rattle.nbody.specs.Refusal.{IsFree, IsSayable};
+ghost use Rattle.nbody.specs.Once.{once_file, most_once_bodies, Start, list_at, start_refusal as refusal_of_start, IsReady, IsRefused};
 ghost use Rattle.nbody.specs.Done.{TellsOf, BecomesAny};
 
+use crate::init_file::{INIT_FILE, read_bodies, skim};
+use crate::params_file::parameters;
 use crate::refusal::Refusal;
 use nb_fixed::plain_tick;
-use nb_format::{Fresh, SnapError, SnapReader};
+use nb_format::{Fresh, SnapReader};
 use nb_host::{Host, HostError};
-use nb_model::{Body, NoMemory, Params, WEIGHT_LIMIT};
-use std::alloc::{AllocError, AllocFailed, Global};
-
-/// The file of the parameters.
-const PARAMS_FILE: u64 = 0;
-
-/// The file of the initial snapshot.
-const INIT_FILE: u64 = 1;
+use nb_model::{Body, MOST_TICKS, NoMemory, Params, WEIGHT_LIMIT, Way};
+use std::alloc::Global;
 
 /// The file that `once` writes.
 const ONCE_FILE: u64 = 8;
 
 /// `once` takes at most so many bodies.
 const MOST_ONCE_BODIES: u64 = 4096;
-
-/// The parameters of this program, which reads none yet.
-const PARAMS: Params = Params {
-    grav: 1_000_000_000,
-    theta_num: 1,
-    theta_den: 2,
-    soft: 1,
-    leaf: 8,
-    every: 100,
-};
 
 /// What `once` has done.
 #[derive(Clone, Copy, PartialEq, Eq, Debug)]
@@ -57,98 +44,45 @@ pub struct Done {
 pub fn once<H: Host>(alloc: Global, host: &mut H, target: u64) -> Result<Done, Refusal>
     // What each answer says of the files as they were.
     ensures done { IfOk result (λ done. IsTrue (H.tells host.old)
-        → (bodies : List Body) × (time : ℕ) × IsReady (H.contents host.old).file target bodies time
-        × TellsOf target bodies time done
-        × FileBecomes once_file (IsFinishedAs (list_at target bodies time) target)
+        → (start : Start) × IsReady (H.contents host.old).file target start × TellsOf target start done
+        × FileBecomes once_file (IsFinishedAs (list_at target start) target)
         (H.contents host.old) (H.contents host.new)) }
+    ensures cause { IfErr result (λ why. IsTrue (H.tells host.old)
+        → IsFree why ⊎ IsRefused (H.contents host.old).file target why) }
     ensures words { result ≢ Err Refusal.Words }
-    ensures not_built { result ≡ Err Refusal.NotBuilt → IsTrue (H.tells host.old)
-        → IsNotBuilt (H.contents host.old).file target }
-    ensures snapshot { result ≡ Err Refusal.Snapshot → IsTrue (H.tells host.old)
-        → HasNoSnapshot (H.contents host.old).file }
+    ensures sayable { IfErr result IsSayable }
     ensures device { result ≡ Err Refusal.Device → Rose (H.faults host.old) (H.faults host.new) }
 
     // What it leaves: all as it was, where it doesn't come so far as to write.
     ensures touched { IsTrue (H.tells host.old) → (H.contents host.new ≡ H.contents host.old)
-        ⊎ ((bodies : List Body) × (time : ℕ) × IsReady (H.contents host.old).file target bodies time
+        ⊎ ((start : Start) × IsReady (H.contents host.old).file target start
         × FileBecomes once_file BecomesAny (H.contents host.old) (H.contents host.new)) }
 
     ensures told { H.tells host.new ≡ H.tells host.old }
     ensures faults { H.faults host.old ≤ H.faults host.new }
     ensures refused { H.refused_says host.new ≡ H.refused_says host.old }
 {
-    if host.len(PARAMS_FILE)? != 0 {
-        return Err(Refusal::NotBuilt);
-    }
+    let params = parameters(alloc, host)?;
     let reader = SnapReader::begin(host, INIT_FILE)?;
     let time = reader.time();
-    if reader.count() > MOST_ONCE_BODIES {
+    let count = reader.count();
+    if count > MOST_ONCE_BODIES {
         skim(host, reader)?;
-        return Err(Refusal::NotBuilt);
+        return Err(Refusal::TooMany(count));
     }
     let mut bodies = read_bodies(alloc, host, reader)?;
-    if !can_take(&bodies, time, target) {
-        return Err(Refusal::NotBuilt);
+    if let Some(why) = start_refusal(&params, &bodies, time, target) {
+        return Err(why);
     }
-    let ticks = target - time;
-    advance(alloc, &mut bodies, ticks)?;
+    let leg = leg_to(time, target);
+    advance(alloc, &params, &mut bodies, leg)?;
     let escaped = escaped_count(&bodies);
     write_bodies(host, &bodies, target)?;
     Ok(Done {
         time: target,
-        ticks,
+        ticks: leg.ticks,
         escaped,
     })
-}
-
-/// Reads on to the end of the snapshot, and keeps nothing.
-fn skim<H: Host>(host: &mut H, mut reader: SnapReader) -> Result<(), SnapError>
-    requires { IsAtStart init_file reader }
-    ensures whole { OnOk result (IsTrue (H.tells host.old)
-        → HasRead reader ((H.contents host.old).file init_file) []
-        → (bodies : List Body) × (length bodies ≡ count_of reader)
-        × IsSnapshot ((H.contents host.old).file init_file) bodies (time_of reader)) }
-    ensures bad { result ≡ Err SnapError.Bad → IsTrue (H.tells host.old)
-        → HasRead reader ((H.contents host.old).file init_file) []
-        → IsNoSnapshot ((H.contents host.old).file init_file) }
-    ensures same { H.contents host.new ≡ H.contents host.old }
-    ensures told { H.tells host.new ≡ H.tells host.old }
-    ensures faults { H.faults host.old ≤ H.faults host.new }
-    ensures fault { result ≡ Err SnapError.Fault → Rose (H.faults host.old) (H.faults host.new) }
-    ensures refused { H.refused_says host.new ≡ H.refused_says host.old }
-{
-    while let Some(_) = reader.next(host)? {}
-    Ok(())
-}
-
-/// Reads the bodies of the snapshot.
-fn read_bodies<H: Host>(
-    alloc: Global,
-    host: &mut H,
-    mut reader: SnapReader,
-) -> Result<Vec<Body>, SnapError>
-    requires { IsAtStart init_file reader }
-    ensures stored { IfOk result (λ bodies. AreStoredBodies bodies.items) }
-    ensures count { IfOk result (λ bodies. length bodies.items ≡ count_of reader) }
-    ensures whole { IfOk result (λ bodies. IsTrue (H.tells host.old)
-        → HasRead reader ((H.contents host.old).file init_file) []
-        → IsSnapshot ((H.contents host.old).file init_file) bodies.items (time_of reader)) }
-    ensures bad { result ≡ Err SnapError.Bad → IsTrue (H.tells host.old)
-        → HasRead reader ((H.contents host.old).file init_file) []
-        → IsNoSnapshot ((H.contents host.old).file init_file) }
-    ensures same { H.contents host.new ≡ H.contents host.old }
-    ensures told { H.tells host.new ≡ H.tells host.old }
-    ensures faults { H.faults host.old ≤ H.faults host.new }
-    ensures fault { result ≡ Err SnapError.Fault → Rose (H.faults host.old) (H.faults host.new) }
-    ensures refused { H.refused_says host.new ≡ H.refused_says host.old }
-{
-    let mut bodies = Vec::new(alloc);
-    while let Some(body) = reader.next(host)? {
-        bodies
-            .push(body)
-            .map_err(|_: AllocFailed<Body>| SnapError::NoMemory)?;
-    }
-    Ok(bodies)
 }
 
 /// The mass of all bodies.
@@ -163,26 +97,59 @@ fn total_mass(bodies: &[Body]) -> u64
     mass
 }
 
-/// Whether `once` can take these bodies from this time to the target: they aren't too heavy, and the target
-/// is the time or one tick after it.
-fn can_take(bodies: &[Body], time: u64, target: u64) -> bool
+/// Why `once` doesn't take these bodies from this time to the target, if it doesn't: they are too heavy, or
+/// the target is too far away.
+fn start_refusal(params: &Params, bodies: &[Body], time: u64, target: u64) -> Option<Refusal>
     requires { length bodies.now ≤ most_once_bodies }
-    ensures { result ≡ is_taken target bodies.now time }
+    ensures { result ≡ refusal_of_start target
+        (record { params = params.now; bodies = bodies.now; time = time }) }
 {
-    if u128::from(PARAMS.grav) * u128::from(total_mass(bodies)) >= u128::from(WEIGHT_LIMIT) {
-        return false;
+    let mass = total_mass(bodies);
+    if u128::from(params.grav) * u128::from(mass) >= u128::from(WEIGHT_LIMIT) {
+        return Some(Refusal::TooHeavy(params.grav, mass));
     }
-    target == time || Some(target) == time.checked_add(1)
+    let ticks = time.abs_diff(target);
+    if ticks > MOST_TICKS {
+        return Some(Refusal::TickLimit(ticks));
+    }
+    None
 }
 
-/// Takes so many ticks.
-fn advance(alloc: Global, bodies: &mut Vec<Body>, ticks: u64) -> Result<(), NoMemory>
-    requires { IsValidBodies built_in_params bodies.old.items }
-    ensures valid { OnOk result (IsValidBodies built_in_params bodies.new.items) }
-    ensures taken { OnOk result (bodies.new.items ≡ forward_steps built_in_params ticks bodies.old.items) }
+/// So many ticks in one direction.
+#[derive(Clone, Copy)]
+struct Leg {
+    way: Way,
+    ticks: u64,
+}
+
+/// The ticks from one time to another.
+fn leg_to(from: u64, to: u64) -> Leg
+    ensures ways { replicate result.ticks result.way ≡ directions_to from to }
+    ensures ticks { result.ticks ≡ (to - from) + (from - to) }
 {
-    for _ in 0..ticks {
-        plain_tick(alloc, &PARAMS, bodies)?;
+    if from <= to {
+        Leg {
+            way: Way::Forward,
+            ticks: to - from,
+        }
+    } else {
+        Leg {
+            way: Way::Back,
+            ticks: from - to,
+        }
+    }
+}
+
+/// Takes so many ticks. The memory that it takes doesn't grow with their number.
+fn advance(alloc: Global, params: &Params, bodies: &mut Vec<Body>, leg: Leg) -> Result<(), NoMemory>
+    requires params { AreInRange params.now }
+    requires valid { IsValidBodies params.now bodies.old.items }
+    ensures valid { OnOk result (IsValidBodies params.now bodies.new.items) }
+    ensures taken { OnOk result
+        (bodies.new.items ≡ steps params.now (replicate leg.ticks leg.way) bodies.old.items) }
+{
+    for _ in 0..leg.ticks {
+        plain_tick(alloc, params, bodies, leg.way)?;
     }
     Ok(())
 }
@@ -197,7 +164,9 @@ fn escaped_count(bodies: &[Body]) -> u64
 /// Writes the snapshot of the bodies at this time into the file of `once`, whatever it held. After a
 /// refusal that file may be in part.
 fn write_bodies<H: Host>(host: &mut H, bodies: &[Body], time: u64) -> Result<(), HostError>
-    requires { IsValidBodies built_in_params bodies.now }
+    requires each { All IsValidBody bodies.now }
+    requires ids { IsStrictlyIncreasing (map (λ b. b.id) bodies.now) }
+    requires count { length bodies.now ≤ most_bodies }
     ensures written { OnOk result (IsTrue (H.tells host.old)
         → FileBecomes once_file (IsFinishedAs bodies.now time) (H.contents host.old) (H.contents host.new)) }
     ensures others { IsTrue (H.tells host.old)

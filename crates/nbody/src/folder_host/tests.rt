@@ -9,6 +9,10 @@ use std::rt::Files;
 use std::test::Fail;
 use std::{env, fs, process};
 
+/// A parameter text.
+const PARAMS: &[u8] =
+    b"grav = 1000000000\ntheta_num = 1\ntheta_den = 2\nsoft = 1\nleaf = 8\nevery = 100\n";
+
 /// A snapshot at time 0 of one body: id 7, mass 3, at (5, 5, 5), with velocity (1, 0, 0).
 const INIT: &[u8; 96] = b"FNBSNAP1\x01\0\0\0\0\0\0\0\0\0\0\0\0\0\0\0\0\0\0\0\0\0\0\0\
     \x07\0\0\0\0\0\0\0\x03\0\0\0\0\0\0\0\x05\0\0\0\0\0\0\0\x05\0\0\0\0\0\0\0\
@@ -95,6 +99,7 @@ fn tries_names<R: Abort>(rt: &R) {
 
 /// The program itself.
 fn tries_once<R: Abort + Files + AllocGlobal, H: Host>(rt: &R, host: &mut H) -> Result<(), Fail> {
+    host.write_at(0, 0, PARAMS)?;
     host.write_at(1, 0, INIT)?;
     assert_eq!(rt; nbody(rt.alloc(), &["once", "1"], host), 0);
     assert!(rt; holds(rt, "init.nbs", INIT)?);

@@ -1,7 +1,9 @@
 //! What the program does over a host in memory: its bytes, its lines and its statuses.
 
 use super::*;
-use crate::status::{DEVICE, DONE, NOT_BUILT, SNAPSHOT, WORDS};
+use crate::status::{
+    DEVICE, DONE, PARAMS as BAD_PARAMS, SNAPSHOT, TICK_LIMIT, TOO_HEAVY, TOO_MANY, WORDS,
+};
 use nb_host::MemoryHost;
 use std::alloc::AllocError;
 use std::process::Abort;
@@ -15,6 +17,10 @@ const ONCE: u64 = 8;
 
 /// The middle of the box on an axis, 2^39.
 const H: u64 = 549_755_813_888;
+
+/// Parameters for all tests that don't name others.
+const TEXT: &[u8] =
+    b"grav = 1000000000\ntheta_num = 1\ntheta_den = 2\nsoft = 1\nleaf = 8\nevery = 100\n";
 
 /// The snapshot of no bodies at time 0.
 static EMPTY: [u8; 32] = [
@@ -75,6 +81,7 @@ fn spell(
 /// A host with this initial snapshot, and something else in the file of `once`.
 fn host_of(alloc: Global, init: &[u8]) -> Result<MemoryHost, Fail> {
     let mut host = MemoryHost::new(alloc);
+    host.with_file(PARAMS, TEXT)?;
     host.with_file(INIT, init)?;
     host.with_file(ONCE, b"old")?;
     Ok(host)
@@ -135,7 +142,9 @@ fn one_body(rt: HostRuntime) -> Result<(), Fail> {
     let line = b"once time 1 ticks 1 out 0\n";
     check_done(&rt, rt.alloc(), &ONE_BODY, "1", line, &ONE_BODY_LATER)?;
     let line = b"once time 0 ticks 0 out 0\n";
-    check_done(&rt, rt.alloc(), &ONE_BODY, "0", line, &ONE_BODY)
+    check_done(&rt, rt.alloc(), &ONE_BODY, "0", line, &ONE_BODY)?;
+    let line = b"once time 0 ticks 1 out 0\n";
+    check_done(&rt, rt.alloc(), &ONE_BODY_LATER, "0", line, &ONE_BODY)
 }
 
 #[test]
@@ -147,7 +156,21 @@ fn two_bodies(rt: HostRuntime) -> Result<(), Fail> {
     spell(&mut want, 1, 1, 0, [549_756_813_887, H, H], [999_998, 0, 0])?;
     spell(&mut want, 2, 1000, 0, [549_755_813_889, H, H], [-999, 0, 0])?;
     let line = b"once time 1 ticks 1 out 0\n";
-    check_done(&rt, rt.alloc(), &init, "1", line, &want)
+    check_done(&rt, rt.alloc(), &init, "1", line, &want)?;
+    let line = b"once time 0 ticks 1 out 0\n";
+    check_done(&rt, rt.alloc(), &want, "0", line, &init)
+}
+
+#[test]
+fn two_bodies_in_one_place(rt: HostRuntime) -> Result<(), Fail> {
+    let mut init = header(rt.alloc(), 2, 0)?;
+    let mut want = header(rt.alloc(), 2, 10)?;
+    for id in 1..3 {
+        spell(&mut init, id, 5, 0, [H, H, H], [0, 0, 0])?;
+        spell(&mut want, id, 5, 0, [H, H, H], [0, 0, 0])?;
+    }
+    let line = b"once time 10 ticks 10 out 0\n";
+    check_done(&rt, rt.alloc(), &init, "10", line, &want)
 }
 
 #[test]
@@ -166,6 +189,10 @@ fn leaves_the_box(rt: HostRuntime) -> Result<(), Fail> {
         spell(&mut want, 7, 3, 1, at, v)?;
         let line = b"once time 1 ticks 1 out 1\n";
         check_done(&rt, rt.alloc(), &init, "1", line, &want)?;
+        let mut later = header(rt.alloc(), 1, 2)?;
+        spell(&mut later, 7, 3, 1, at, v)?;
+        let line = b"once time 2 ticks 2 out 1\n";
+        check_done(&rt, rt.alloc(), &init, "2", line, &later)?;
     }
     Ok(())
 }
@@ -210,6 +237,19 @@ fn the_greatest_time(rt: HostRuntime) -> Result<(), Fail> {
     check_done(&rt, rt.alloc(), &init, "18446744073709551615", line, &init)
 }
 
+/// Runs `once` to a time on an initial snapshot that is refused so.
+fn check_snapshot(
+    rt: &impl Abort,
+    alloc: Global,
+    init: &[u8],
+    target: &str,
+    status: u8,
+    line: &[u8],
+) -> Result<(), Fail> {
+    let mut host = host_of(alloc, init)?;
+    check_refused(rt, alloc, &mut host, &["once", target], status, line)
+}
+
 #[test]
 fn no_snapshot(rt: HostRuntime) -> Result<(), Fail> {
     let mut longer = Vec::from_slice(rt.alloc(), &ONE_BODY)?;
@@ -218,121 +258,176 @@ fn no_snapshot(rt: HostRuntime) -> Result<(), Fail> {
     spell(&mut same_id, 4, 1, 0, [0, 0, 0], [0, 0, 0])?;
     spell(&mut same_id, 4, 1, 0, [0, 0, 0], [0, 0, 0])?;
     let mut too_fast = header(rt.alloc(), 1, 0)?;
-    spell(&mut too_fast, 1, 1, 0, [0, 0, 0], [0, 1 << 61, 0])?;
-    for init in [
-        b"".as_slice(),
-        &ONE_BODY[..95],
-        &longer,
-        &same_id,
-        &too_fast,
-    ] {
-        check_no_snapshot(&rt, rt.alloc(), init)?;
+    spell(&mut too_fast, 1, 1, 0, [0, 0, 0], [1 << 61, 0, 0])?;
+    let table = [
+        (b"".as_slice(), b"nbody: snapshot: short\n".as_slice()),
+        (&ONE_BODY[..95], b"nbody: snapshot: length\n"),
+        (&longer, b"nbody: snapshot: length\n"),
+        (&same_id, b"nbody: snapshot: id order at body 1\n"),
+        (&too_fast, b"nbody: snapshot: speed at body 0\n"),
+    ];
+    for (init, line) in table {
+        check_snapshot(&rt, rt.alloc(), init, "0", SNAPSHOT, line)?;
     }
-    // the gate, the form's name, the count, the zeros, a mass of 0, a mark of 2, a position out of the box
-    for (place, byte) in [
-        (0, 0),
-        (7, 0x32),
-        (10, 1),
-        (24, 1),
-        (40, 0),
-        (44, 2),
-        (53, 1),
-    ] {
+    let table = [
+        (0, 0, b"nbody: snapshot: unfinished\n".as_slice()),
+        (7, 0x32, b"nbody: snapshot: magic\n"),
+        (11, 1, b"nbody: snapshot: count\n"),
+        (24, 1, b"nbody: snapshot: zeros\n"),
+        (40, 0, b"nbody: snapshot: mass at body 0\n"),
+        (44, 2, b"nbody: snapshot: flag at body 0\n"),
+        (53, 1, b"nbody: snapshot: place at body 0\n"),
+    ];
+    for (place, byte, line) in table {
         assert!(rt; place < 96);
         let mut init = ONE_BODY;
         init[place] = byte;
-        check_no_snapshot(&rt, rt.alloc(), &init)?;
+        check_snapshot(&rt, rt.alloc(), &init, "0", SNAPSHOT, line)?;
     }
     Ok(())
 }
 
-fn check_no_snapshot(rt: &impl Abort, alloc: Global, init: &[u8]) -> Result<(), Fail> {
-    let mut host = host_of(alloc, init)?;
-    check_refused(
-        rt,
-        alloc,
-        &mut host,
-        &["once", "0"],
-        SNAPSHOT,
-        b"nbody: snapshot\n",
-    )
+/// Runs `once 1` on a parameter text that is refused so.
+fn check_params(rt: &impl Abort, alloc: Global, text: &[u8], line: &[u8]) -> Result<(), Fail> {
+    let mut host = host_of(alloc, &ONE_BODY)?;
+    host.with_file(PARAMS, text)?;
+    check_refused(rt, alloc, &mut host, &["once", "1"], BAD_PARAMS, line)
 }
 
 #[test]
-fn not_built(rt: HostRuntime) -> Result<(), Fail> {
-    // parameters, also beside a file that is no snapshot
-    for init in [ONE_BODY.as_slice(), b""] {
-        let mut host = host_of(rt.alloc(), init)?;
-        host.with_file(PARAMS, b"#")?;
-        check_not_built(&rt, rt.alloc(), &mut host, "0")?;
+fn no_parameters(rt: HostRuntime) -> Result<(), Fail> {
+    let table = [
+        (
+            b"grav = 1000000000\ntheta_num = 1\ntheta_den = 2\nsoft = 1\nleaf = 8\n".as_slice(),
+            b"nbody: params: every is missing\n".as_slice(),
+        ),
+        (
+            b"grav = 1\ntheta_num = 1\ngrav = 2\nsoft = 1\nleaf = 8\nevery = 100\n",
+            b"nbody: params: line 3 repeats a name\n",
+        ),
+        (
+            b"grav = 1\ntheta_num = 1\ntheta_den = 2\nsoft = 1\nleaf = 33\nevery = 100\n",
+            b"nbody: params: line 5 is out of range\n",
+        ),
+        (
+            b"grav = 1\ntheta = 1\ntheta_den = 2\nsoft = 1\nleaf = 8\nevery = 100\n",
+            b"nbody: params: line 2\n",
+        ),
+        (b"", b"nbody: params: grav is missing\n"),
+    ];
+    for (text, line) in table {
+        check_params(&rt, rt.alloc(), text, line)?;
     }
-    // a time before the snapshot's, and one two ticks after it
-    let later = header(rt.alloc(), 0, 7)?;
-    for target in ["6", "9", "18446744073709551615"] {
-        let mut host = host_of(rt.alloc(), &later)?;
-        check_not_built(&rt, rt.alloc(), &mut host, target)?;
-    }
-    // a time that no tick follows
-    let last = header(rt.alloc(), 0, u64::MAX)?;
-    let mut host = host_of(rt.alloc(), &last)?;
-    check_not_built(&rt, rt.alloc(), &mut host, "0")?;
-
-    // grav * mass is 4294967296000000000, and 1152921505000000000: 2^60 is 1152921504606846976
-    let mut heavy = header(rt.alloc(), 2, 0)?;
-    spell(&mut heavy, 1, 2_147_483_648, 0, [0, 0, 0], [0, 0, 0])?;
-    spell(&mut heavy, 2, 2_147_483_648, 1, [0, 0, 0], [0, 0, 0])?;
-    let mut just_heavy = header(rt.alloc(), 1, 0)?;
-    spell(&mut just_heavy, 1, 1_152_921_505, 0, [0, 0, 0], [0, 0, 0])?;
-    for init in [&heavy, &just_heavy] {
-        let mut host = host_of(rt.alloc(), init)?;
-        check_not_built(&rt, rt.alloc(), &mut host, "0")?;
-    }
-    // 1152921504000000000 is below it
-    let mut light = header(rt.alloc(), 1, 0)?;
-    spell(&mut light, 1, 1_152_921_504, 0, [0, 0, 0], [0, 0, 0])?;
-    let line = b"once time 0 ticks 0 out 0\n";
-    check_done(&rt, rt.alloc(), &light, "0", line, &light)
+    let long = vec![in rt.alloc(); b'#'; 65537]?;
+    let line = b"nbody: params: longer than 65536 bytes\n";
+    check_params(&rt, rt.alloc(), &long, line)
 }
 
-fn check_not_built(
-    rt: &impl Abort,
-    alloc: Global,
-    host: &mut MemoryHost,
-    target: &str,
-) -> Result<(), Fail> {
+#[test]
+fn parameters_with_comments(rt: HostRuntime) -> Result<(), Fail> {
+    let text = b"# of a test\r\n\tgrav\t=\t1000000000\r\ntheta_num=1\r\ntheta_den = 02\r\n\r\n\
+        every = 100\r\nleaf = 8 \r\nsoft = 1";
+    let mut host = host_of(rt.alloc(), &ONE_BODY)?;
+    host.with_file(PARAMS, text)?;
+    assert_eq!(rt; run_words(rt.alloc(), &["once", "1"], &mut host), DONE);
+    assert_eq!(rt; host.bytes(ONCE), ONE_BODY_LATER.as_slice());
+    assert_eq!(rt; host.bytes(PARAMS), text.as_slice());
+    Ok(())
+}
+
+#[test]
+fn too_heavy(rt: HostRuntime) -> Result<(), Fail> {
+    let mut init = header(rt.alloc(), 2, 0)?;
+    spell(&mut init, 1, 2_147_483_648, 0, [0, 0, 0], [0, 0, 0])?;
+    spell(&mut init, 2, 2_147_483_648, 1, [0, 0, 0], [0, 0, 0])?;
+    let mut host = host_of(rt.alloc(), &init)?;
+    host.with_file(
+        PARAMS,
+        b"grav = 268435456\ntheta_num = 1\ntheta_den = 2\nsoft = 1\nleaf = 8\nevery = 100\n",
+    )?;
+    // too far away too, which is looked for after it
     check_refused(
-        rt,
-        alloc,
-        host,
-        &["once", target],
-        NOT_BUILT,
-        b"nbody: not built yet\n",
-    )
+        &rt,
+        rt.alloc(),
+        &mut host,
+        &["once", "1099511627777"],
+        TOO_HEAVY,
+        b"nbody: grav 268435456 times mass 4294967296 is not below 2^60\n",
+    )?;
+
+    let mut light = header(rt.alloc(), 1, 0)?;
+    spell(&mut light, 1, 1, 0, [0, 0, 0], [0, 0, 0])?;
+    let mut host = host_of(rt.alloc(), &light)?;
+    host.with_file(
+        PARAMS,
+        b"grav = 1152921504606846975\ntheta_num = 1\ntheta_den = 2\nsoft = 1\nleaf = 8\nevery = 1\n",
+    )?;
+    assert_eq!(rt; run_words(rt.alloc(), &["once", "0"], &mut host), DONE);
+    assert_eq!(rt; host.bytes(ONCE), light.as_slice());
+    Ok(())
+}
+
+#[test]
+fn too_many_ticks(rt: HostRuntime) -> Result<(), Fail> {
+    let table = [
+        (
+            0,
+            "1099511627777",
+            b"nbody: 1099511627777 ticks are more than 2^40\n".as_slice(),
+        ),
+        (
+            1_099_511_627_777,
+            "0",
+            b"nbody: 1099511627777 ticks are more than 2^40\n",
+        ),
+        (
+            u64::MAX,
+            "0",
+            b"nbody: 18446744073709551615 ticks are more than 2^40\n",
+        ),
+    ];
+    for (time, target, line) in table {
+        let init = header(rt.alloc(), 0, time)?;
+        check_snapshot(&rt, rt.alloc(), &init, target, TICK_LIMIT, line)?;
+    }
+    Ok(())
 }
 
 /// A snapshot of so many bodies at rest in a corner, at time 0.
 fn crowd(alloc: Global, count: u64) -> Result<Vec<u8>, AllocError> {
     let mut bytes = header(alloc, count, 0)?;
     for id in 0..count {
-        spell(&mut bytes, id, 1, 0, [0, 0, 0], [0, 0, 0])?;
+        spell(&mut bytes, id, 1_000_000, 0, [0, 0, 0], [0, 0, 0])?;
     }
     Ok(bytes)
 }
 
 #[test]
 fn many_bodies(rt: HostRuntime) -> Result<(), Fail> {
+    // too heavy too, and too many ticks, which are looked for after it
     let mut most = crowd(rt.alloc(), 4097)?;
-    let mut host = host_of(rt.alloc(), &most)?;
-    check_not_built(&rt, rt.alloc(), &mut host, "0")?;
+    let line = b"nbody: 4097 bodies are more than 4096\n";
+    check_snapshot(&rt, rt.alloc(), &most, "1099511627777", TOO_MANY, line)?;
 
     // a file of too many bodies whose last one is none is no snapshot
     let len = most.len();
-    assert!(rt; len > 56);
-    most[len - 56] = 0;
-    check_no_snapshot(&rt, rt.alloc(), &most)?;
+    assert!(rt; len > 52);
+    most[len - 52] = 2;
+    let line = b"nbody: snapshot: flag at body 4096\n";
+    check_snapshot(&rt, rt.alloc(), &most, "0", SNAPSHOT, line)?;
+
+    // and parameters that are none are looked for before it
+    let mut host = host_of(rt.alloc(), &most)?;
+    host.with_file(PARAMS, b"soft = 0")?;
+    let line = b"nbody: params: line 1 is out of range\n";
+    check_refused(&rt, rt.alloc(), &mut host, &["once", "0"], BAD_PARAMS, line)?;
 
     let most = crowd(rt.alloc(), 4096)?;
     let mut host = host_of(rt.alloc(), &most)?;
+    host.with_file(
+        PARAMS,
+        b"grav = 1\ntheta_num = 1\ntheta_den = 2\nsoft = 1\nleaf = 8\nevery = 100\n",
+    )?;
     assert_eq!(rt; run_words(rt.alloc(), &["once", "0"], &mut host), DONE);
     assert_eq!(rt; host.bytes(ONCE), most.as_slice());
     Ok(())
@@ -364,7 +459,7 @@ fn a_fault(rt: HostRuntime) -> Result<(), Fail> {
         };
         assert_eq!(rt; host.said(Channel::Out), out, "call {call}");
         assert_eq!(rt; host.bytes(INIT), ONE_BODY.as_slice());
-        assert_eq!(rt; host.bytes(PARAMS), b"".as_slice());
+        assert_eq!(rt; host.bytes(PARAMS), TEXT);
     }
     Ok(())
 }
@@ -393,12 +488,12 @@ fn a_refusal_unsaid(rt: HostRuntime) -> Result<(), Fail> {
     assert_eq!(rt; host.said(Channel::Err), b"nbody: the words ".as_slice());
     assert_eq!(rt; host.calls(), 1);
 
-    // after the sync and the length of the parameters
+    // after the sync, and the length and the bytes of the parameters
     let mut host = host_of(rt.alloc(), &ONE_BODY)?;
     host.with_file(PARAMS, b"#")?;
-    host.fail_at(&[3])?;
+    host.fail_at(&[4])?;
     assert_eq!(rt; run_words(rt.alloc(), &["once", "1"], &mut host), DEVICE);
-    assert_eq!(rt; host.said(Channel::Err), b"nbody: not".as_slice());
-    assert_eq!(rt; host.calls(), 3);
+    assert_eq!(rt; host.said(Channel::Err), b"nbody: params: ".as_slice());
+    assert_eq!(rt; host.calls(), 4);
     Ok(())
 }

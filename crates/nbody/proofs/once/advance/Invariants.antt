@@ -1,11 +1,11 @@
 use Rattle.std.proofs.Common.{◌≡◌, ◌-◌}
-use Rattle.nb_model.specs.Leapfrog.{forward_steps}
+use Rattle.std.specs.Prelude.{replicate}
+use Rattle.nb_model.specs.Leapfrog.{steps}
 use Rattle.nb_model.specs.Valid.{IsValidBodies}
-use Rattle.nbody.specs.Once.{built_in_params}
 use Rattle.nbody.proofs.once.advance.Given as goal
 
 abbrev pub invariant-loop : goal.invariant-loop
 invariant-loop l = record {
-  valid : IsValidBodies built_in_params l.bodies.items;
-  ahead : forward_steps built_in_params (l.ticks - l.counter) l.bodies.items ≡ forward_steps built_in_params l.ticks l.initial.bodies.items;
+  valid : IsValidBodies l.params l.bodies.items;
+  ahead : steps l.params (replicate (l.leg.ticks - l.counter) l.leg.way) l.bodies.items ≡ steps l.params (replicate l.leg.ticks l.leg.way) l.initial.bodies.items;
 }

@@ -1,14 +1,17 @@
 use Rattle.std.proofs.Common.{◌≡◌, rules, arith, ap, Err, subst, sym, IsTrue, ◌∙◌}
-use Rattle.nb_format.specs.declared.snap_error.SnapError.TheVariants.{Bad}
 use Rattle.nb_format.specs.Reader.{file_of, MayFollow, IsBehind}
-use Rattle.nbody.proofs.Reading.{HasGiven-more, IsFrontOf-same, not_ended, IsNoSnapshot-refused, file-same}
-use Rattle.nbody.proofs.once.skim.Goals as goal
+use Rattle.nbody.specs.Once.{init_file}
+use Rattle.nbody.proofs.Reading.{HasGiven-more, IsBad, IsFrontOf-same, not_ended, file-same}
+use Rattle.nbody.proofs.init_file.skim.Goals as goal
 
 pub returns-in_err-next-clause-bad : goal.returns-in_err-next-clause-bad
-returns-in_err-next-clause-bad g c is_bad tells has =
+returns-in_err-next-clause-bad g c =
     let kept = c.loop.invariant in
-    let bad : c.in_err-next.field-0.0 ≡ Bad = search rules in
-    IsNoSnapshot-refused ((g.H.Host.contents c.loop.host).file (file_of c.loop.reader)) (file-same kept.same (kept.given.1.file ∙ c.requires.file)) kept.given.1 tells has (λ e. let h = c.in_err-next.ensures.end.1 e in cc) (λ read front. c.in_err-next.ensures.bad _ _ (subst IsTrue (sym kept.told) tells) read front (ap Err bad))
+    let file = (g.H.Host.contents c.args.host.now).file init_file in
+    let handed_on : c.from_residual.result ≡ Err c.in_err-next.field-0.0 = search rules in
+    let why : IsBad (g.H.Host.tells c.args.host.now) c.args.reader file c.in_err-next.field-0.0 = λ by told begun.
+    c.in_err-next.ensures.first _ _ (subst IsTrue (sym kept.told) told) (kept.given.1.has told begun) (file-same kept.same (kept.given.1.file ∙ c.requires.file)) by in
+    rw handed_on why
 
 pub loop-preserved : goal.loop-preserved
 loop-preserved g c =

@@ -2,7 +2,7 @@ use Rattle.std.proofs.Common.{◌≡◌, ◌-◌, ◌≤◌}
 use Rattle.nb_format.specs.Reader.{count_of, read_count}
 use Rattle.nbody.specs.Once.{init_file}
 use Rattle.nbody.proofs.Reading.{HasGiven}
-use Rattle.nbody.proofs.once.read_bodies.Given as goal
+use Rattle.nbody.proofs.init_file.read_bodies.Given as goal
 
 abbrev pub invariant-loop-bodies : goal.invariant-loop-bodies
 invariant-loop-bodies g l = let host = g.H.Host in record {

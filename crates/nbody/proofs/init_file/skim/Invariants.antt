@@ -3,7 +3,7 @@ use Rattle.nb_model.specs.declared.body.Body.{Body}
 use Rattle.nb_format.specs.Reader.{count_of, read_count}
 use Rattle.nbody.specs.Once.{init_file}
 use Rattle.nbody.proofs.Reading.{HasGiven}
-use Rattle.nbody.proofs.once.skim.Given as goal
+use Rattle.nbody.proofs.init_file.skim.Given as goal
 
 abbrev pub invariant-loop : goal.invariant-loop
 invariant-loop g l = let host = g.H.Host in record {

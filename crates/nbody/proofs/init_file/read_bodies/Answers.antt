@@ -1,17 +1,19 @@
 use Rattle.std.proofs.Common.{◌≡◌, List, [], ◌∷◌, ◌++◌, rules, arith, ap, Err, subst, sym, IsTrue, ◌∙◌}
 use Rattle.std.proofs.lemmas.Grind.{common_steps}
 use Rattle.nb_model.specs.declared.body.Body.{Body}
-use Rattle.nb_format.specs.declared.snap_error.SnapError.TheVariants.{Bad}
 use Rattle.nb_format.specs.Reader.{file_of, MayFollow, IsBehind}
 use Rattle.nbody.specs.Once.{init_file}
-use Rattle.nbody.proofs.Reading.{HasGiven, HasGiven-more, IsFrontOf-same, not_ended, IsNoSnapshot-refused, file-same}
-use Rattle.nbody.proofs.once.read_bodies.Goals as goal
+use Rattle.nbody.proofs.Reading.{HasGiven, HasGiven-more, IsBad, IsFrontOf-same, not_ended, file-same}
+use Rattle.nbody.proofs.init_file.read_bodies.Goals as goal
 
 pub returns-in_err-body-clause-bad : goal.returns-in_err-body-clause-bad
-returns-in_err-body-clause-bad g c is_bad tells has =
+returns-in_err-body-clause-bad g c =
     let kept = c.loop-bodies.invariant in
-    let bad : c.in_err-body.field-0.0 ≡ Bad = search rules in
-    IsNoSnapshot-refused ((g.H.Host.contents c.loop-bodies.host).file (file_of c.loop-bodies.reader)) (file-same kept.same (kept.given.file ∙ c.requires.file)) kept.given tells has (λ e. let h = c.in_err-body.ensures.end.1 e in cc) (λ read front. c.in_err-body.ensures.bad _ _ (subst IsTrue (sym kept.told) tells) read front (ap Err bad))
+    let file = (g.H.Host.contents c.args.host.now).file init_file in
+    let handed_on : c.from_residual.result ≡ Err c.in_err-body.field-0.0 = search rules in
+    let why : IsBad (g.H.Host.tells c.args.host.now) c.args.reader file c.in_err-body.field-0.0 = λ by told begun.
+    c.in_err-body.ensures.first _ _ (subst IsTrue (sym kept.told) told) (kept.given.has told begun) (file-same kept.same (kept.given.file ∙ c.requires.file)) by in
+    rw handed_on why
 
 pub loop-bodies-preserved : goal.loop-bodies-preserved
 loop-bodies-preserved g c =
