@@ -1,6 +1,6 @@
 #!/bin/sh
-# Times `nbody once 1` on 4096 generated bodies, the most that `once` takes, and prints the seconds and the peak
-# memory. The bodies are made here, in a folder of their own, and not by the program.
+# Times `nbody once` on generated bodies, and prints the seconds and the peak memory: one tick of 4096 bodies, the most
+# that `once` takes, and 1000 ticks of 64 bodies. The bodies are made here, in a folder of their own, and not by the program.
 
 root=$(CDPATH='' cd -- "$(dirname -- "$0")/.." && pwd) || exit 1
 folder=$(mktemp -d) || exit 1
@@ -14,10 +14,12 @@ if [ $? -ne 1 ]; then
     exit 1
 fi
 
-python3 - <<'PYTHON' || exit 1
+make_bodies() {
+    python3 - "$1" <<'PYTHON'
 import struct
+import sys
 
-SEED, BODIES = 1, 4096
+SEED, BODIES = 1, int(sys.argv[1])
 MASK = 2**64 - 1
 
 
@@ -44,21 +46,30 @@ with open("init.nbs", "wb") as file:
     file.write(b"FNBSNAP1" + struct.pack("<QQQ", BODIES, 0, 0))
     file.write(b"".join(body(i + 1, words) for i in range(BODIES)))
 PYTHON
+}
 
-if [ -x /usr/bin/time ]; then
-    /usr/bin/time -f "seconds %e, peak memory %M kB" "$root/nbody" once 1
-else
-    python3 - "$root/nbody" <<'PYTHON'
+time_once() {
+    python3 - "$root/nbody" "$1" <<'PYTHON'
 import resource
 import subprocess
 import sys
 import time
 
 start = time.monotonic()
-status = subprocess.call([sys.argv[1], "once", "1"])
+status = subprocess.call([sys.argv[1], "once", sys.argv[2]])
 seconds = time.monotonic() - start
-peak = resource.getrusage(resource.RUSAGE_CHILDREN).ru_maxrss
-print(f"seconds {seconds:.2f}, peak memory at most {peak} kB", file=sys.stderr)
+used = resource.getrusage(resource.RUSAGE_CHILDREN)
+print(f"seconds {seconds:.2f}, of the processor {used.ru_utime:.2f}, peak memory at most {used.ru_maxrss} kB")
 sys.exit(status)
 PYTHON
-fi
+}
+
+cat >params <<'PARAMS'
+grav = 1000000000
+theta_num = 1
+theta_den = 2
+soft = 1
+leaf = 8
+every = 100
+PARAMS
+make_bodies 4096 && time_once 1 && make_bodies 64 && time_once 1000
