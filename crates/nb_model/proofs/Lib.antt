@@ -7,3 +7,5 @@ pub mod Octants
 pub mod Cells
 pub mod Forces
 pub mod Steps
+pub mod Accelerated
+pub mod Undone

@@ -119,7 +119,7 @@ kicked_again_body way b k drifted small = record {
   speed = λ inside. IsBelow-changed way box_side weight_limit speed_limit b.v k (omega arith) (drifted.speed inside) small;
 }
 
-coordinate_from : (c : ℤ) → is_coordinate c ≡ true → (n : ℕ) × (c ≡ pos n) × (n < box_side)
+pub coordinate_from : (c : ℤ) → is_coordinate c ≡ true → (n : ℕ) × (c ≡ pos n) × (n < box_side)
 coordinate_from (pos n) inside =
     (n, refl, ltb-true n box_side (and_parts (int_le (pos 0) (pos n)) (int_lt (pos n) (pos box_side)) inside).1)
 coordinate_from (negsuc n) inside = absurd (false≢true inside)

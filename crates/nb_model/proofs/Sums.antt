@@ -39,3 +39,10 @@ sum_by-filter-cons f p x xs = kept (p x) where
   kept : (t : Bool) → sum_by f (cond t (x ∷ filter p xs) (filter p xs)) ≡ cond t (f x) 0 + sum_by f (filter p xs)
   kept true = sum_by-cons f x (filter p xs)
   kept false = omega arith
+
+pub filter-map : {X Y : Type 0} (p : Y → Bool) (f : X → Y) (xs : List X) → filter p (map f xs) ≡ map f (filter (λ x. p (f x)) xs)
+filter-map p f [] = refl
+filter-map p f (x ∷ xs) = kept (p (f x)) (filter-map p f xs) where
+  kept : (t : Bool) → filter p (map f xs) ≡ map f (filter (λ y. p (f y)) xs) → cond t (f x ∷ filter p (map f xs)) (filter p (map f xs)) ≡ map f (cond t (x ∷ filter (λ y. p (f y)) xs) (filter (λ y. p (f y)) xs))
+  kept true same = ap (λ ys. f x ∷ ys) same
+  kept false same = same

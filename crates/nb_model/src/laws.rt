@@ -3,7 +3,7 @@
 
 ghost use Rattle.std.specs.Prelude.{ℕ};
 ghost use Rattle.nb_model.specs.Root.{IsIntegerRoot, integer_root};
-ghost use Rattle.nb_model.specs.Laws.{ForceIsByCases, StepIsValid};
+ghost use Rattle.nb_model.specs.Laws.{ForceIsByCases, StepIsUndone, StepIsValid};
 
 /// The integer root is the greatest number whose square is at most the given one.
 pub fn law_integer_root()
@@ -18,4 +18,9 @@ pub fn law_force_on()
 /// One tick, forward or back, makes a valid list of a valid list.
 pub fn law_step()
     ensures { StepIsValid }
+{}
+
+/// A tick in which no body leaves the box is undone, to the last bit, by a tick the other way.
+pub fn law_back()
+    ensures { StepIsUndone }
 {}
