@@ -138,3 +138,50 @@ octants_of (suc level) key is =
     let last : key % 8 < 8 = mod_below key 8 (omega arith) in
     let push = key_of_push octants.0 (key % 8) in
     (octants.0 ++ key % 8 ∷ [], (All-push (λ octant. octant < 8) octants.0 (key % 8) octants.1.0 last, omega (arith, length_push octants.0 (key % 8), octants.1.1), omega (arith, push, octants.1.2)))
+
+-- ---- a key has one list of octants
+
+-- a key behind which so many octants follow
+key_bounds : (octants : List ℕ) (level key : ℕ) → All (λ octant. octant < 8) octants → 8 ^ level ≤ key → key < 2 * 8 ^ level → (8 ^ (level + length octants) ≤ key_from key octants) × (key_from key octants < 2 * 8 ^ (level + length octants))
+unfolding key_from
+key_bounds [] level key each least below =
+    let same : 8 ^ (level + 0) ≡ 8 ^ level = ap (λ l. 8 ^ l) (omega arith) in
+    (omega (arith, same), omega (arith, same))
+key_bounds (o ∷ os) level key each least below =
+    let first : o < 8 = All-head (λ octant. octant < 8) o os each in
+    let rest = All-tail (λ octant. octant < 8) o os each in
+    let power = pow-suc 8 level in
+    let more = key_bounds os (suc level) (8 * key + o) rest (omega (arith, power)) (omega (arith, power)) in
+    let same : 8 ^ (suc level + length os) ≡ 8 ^ (level + suc (length os)) = ap (λ l. 8 ^ l) (omega arith) in
+    (omega (arith, same, more.0), omega (arith, same, more.1))
+
+one_power : (a b key : ℕ) → 8 ^ a ≤ key → key < 2 * 8 ^ a → 8 ^ b ≤ key → key < 2 * 8 ^ b → a ≡ b
+one_power a b key least_a below_a least_b below_b =
+    elim (cases_lt a b) [
+      | inl below ↦ absurd (omega (arith, eight_mono (suc a) b below, pow-suc 8 a))
+      | inr from ↦ elim (cases_lt b a) [
+        | inl above ↦ absurd (omega (arith, eight_mono (suc b) a above, pow-suc 8 b))
+        | inr to ↦ omega arith
+      ]
+    ]
+
+-- as many octants behind two keys
+same_from : (a b : List ℕ) (j k : ℕ) → All (λ octant. octant < 8) a → All (λ octant. octant < 8) b → length a ≡ length b → key_from j a ≡ key_from k b → (j ≡ k) × (a ≡ b)
+unfolding key_from
+same_from [] [] j k each_a each_b long same = (same, refl)
+same_from [] (p ∷ ps) j k each_a each_b long same = absurd (omega arith)
+same_from (o ∷ os) [] j k each_a each_b long same = absurd (omega arith)
+same_from (o ∷ os) (p ∷ ps) j k each_a each_b long same =
+    let first_a : o < 8 = All-head (λ octant. octant < 8) o os each_a in
+    let first_b : p < 8 = All-head (λ octant. octant < 8) p ps each_b in
+    let rest = same_from os ps (8 * j + o) (8 * k + p) (All-tail (λ octant. octant < 8) o os each_a) (All-tail (λ octant. octant < 8) p ps each_b) (omega arith) same in
+    let octant : o ≡ p = omega (arith, rest.0) in
+    (omega (arith, rest.0), λ i. octant i ∷ rest.1 i)
+
+pub same_octants : (a b : List ℕ) → All (λ octant. octant < 8) a → All (λ octant. octant < 8) b → key_of a ≡ key_of b → a ≡ b
+unfolding key_from
+same_octants a b each_a each_b same =
+    let left = key_bounds a 0 1 each_a (omega arith) (omega arith) in
+    let right = key_bounds b 0 1 each_b (omega arith) (omega arith) in
+    let long : 0 + length a ≡ 0 + length b = one_power (0 + length a) (0 + length b) (key_of a) left.0 left.1 (subst (λ n. 8 ^ (0 + length b) ≤ n) (sym same) right.0) (subst (λ n. n < 2 * 8 ^ (0 + length b)) (sym same) right.1) in
+    (same_from a b 1 1 each_a each_b (omega arith) same).1

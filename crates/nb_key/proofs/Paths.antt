@@ -1,13 +1,15 @@
 -- The key of the cell that holds a position, from the bits of its coordinates.
-use Rattle.std.proofs.Common.{◌≡◌, ℕ, zero, suc, ◌+◌, ◌-◌, ◌*◌, ◌/◌, ◌%◌, ◌^◌, ◌<◌, ◌≤◌, sym, ap, ◌∙◌, refl, arith}
+use Rattle.std.proofs.Common.{◌≡◌, ℕ, zero, suc, ◌+◌, ◌-◌, ◌*◌, ◌/◌, ◌%◌, ◌^◌, ◌<◌, ◌≤◌, sym, ap, ◌∙◌, refl, subst, arith, length}
 use Rattle.std.proofs.Math.Nat.{pow-suc, div-div-eq-div-mul}
 use Rattle.std.proofs.lemmas.Nat.{shr-shr}
+use Rattle.std.proofs.lemmas.List.{length_push}
+use Rattle.std.proofs.lemmas.List.Elements.{All-nil, All-push}
 use Rattle.std.proofs.lemmas.List.Sums.{fold_push}
 use Rattle.nb_model.specs.declared.body.At.{At}
 use Rattle.nb_model.specs.Octree.{half_at, octant_at}
 use Rattle.nb_model.proofs.Octants.{octant_at-lt}
 use Rattle.nb_key.specs.Spread.{spread_of}
-use Rattle.nb_key.specs.Morton.{octants_to, key_at, morton_key, IsKeyAt}
+use Rattle.nb_key.specs.Morton.{octants_to, key_at, morton_key, AreOctants, IsKeyAt}
 use Rattle.nb_key.proofs.Spreads.{spread_bound}
 
 -- ---- one axis
@@ -52,6 +54,12 @@ key_is level p within =
     let z = spread_bound level (p.z / 2 ^ (40 - level)) in
     record { deepest = within; least = omega (arith, sum); below = omega (arith, sum, x, y, z) }
 
+-- the key at the deepest level, from the spreads of the coordinates
+pub deepest_is : (p : At) (x y z : ℕ) → x ≡ spread_of 21 (p.x / 2 ^ 19) → y ≡ spread_of 21 (p.y / 2 ^ 19) → z ≡ spread_of 21 (p.z / 2 ^ 19) → IsKeyAt 21 (2 ^ 63 + 4 * x + 2 * y + z)
+deepest_is p x y z of_x of_y of_z =
+    let sum : morton_key p ≡ 2 ^ 63 + 4 * x + 2 * y + z = omega (arith, key_sum 21 p (omega arith)) in
+    subst (λ n. IsKeyAt 21 n) sum (key_is 21 p (omega arith))
+
 -- ---- the cells above
 
 -- the key of a cell some levels above, from the key below
@@ -67,3 +75,15 @@ key_above_by (suc below) level p =
 
 pub key_above : (below level : ℕ) (p : At) → level + below ≡ 21 → key_at level p ≡ morton_key p / 8 ^ below
 key_above below level p whole = key_above_by below level p ∙ ap (λ l. key_at l p / 8 ^ below) whole
+
+-- ---- the octants to a position
+
+pub octants_to-are : (level : ℕ) (p : At) → AreOctants (octants_to level p)
+unfolding octants_to
+octants_to-are zero p = All-nil (λ octant. octant < 8)
+octants_to-are (suc level) p = All-push (λ octant. octant < 8) (octants_to level p) (octant_at level p) (octants_to-are level p) (octant_at-lt level p)
+
+pub length-octants_to : (level : ℕ) (p : At) → length (octants_to level p) ≡ level
+unfolding octants_to
+length-octants_to zero p = refl
+length-octants_to (suc level) p = omega (arith, length_push (octants_to level p) (octant_at level p), length-octants_to level p)

@@ -68,7 +68,8 @@ impl Key {
         requires x { x < box_side }
         requires y { y < box_side }
         requires z { z < box_side }
-        ensures { result ≡ morton_key (position x y z) }
+        ensures value { result ≡ morton_key (position x y z) }
+        ensures deepest { IsKeyAt deepest_level result }
     {
         let x = spread(x >> UNTOLD_BITS);
         let y = spread(y >> UNTOLD_BITS);

@@ -10,7 +10,7 @@ mod laws;
 mod spread;
 
 pub use key::Key;
-pub use laws::{law_octants, law_range, law_same_cell};
+pub use laws::{law_key_at, law_octants, law_range, law_same_cell};
 
 #[cfg(test)]
 mod tests;

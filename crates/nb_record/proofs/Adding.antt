@@ -185,7 +185,7 @@ empty_count page = empty_word page 8 (omega arith) ∙ zero_words.0
 empty_number : (page : ℕ) → page < 2 ^ 64 → page_number (empty_page page) ≡ page
 empty_number page fits = word_here 0 page zero_page (omega arith) fits
 
-empty_next : (page : ℕ) → page_next (empty_page page) ≡ 0
+pub empty_next : (page : ℕ) → page_next (empty_page page) ≡ 0
 empty_next page = empty_word page 16 (omega arith) ∙ zero_words.1
 
 empty_zeros : (page : ℕ) → word 24 (empty_page page) ≡ 0
@@ -201,3 +201,11 @@ empty_cells page fits = record {
 
 pub empty_bodies : (page : ℕ) → page < 2 ^ 64 → IsBodyPage page (empty_page page)
 empty_bodies page fits = record { number = empty_number page fits; count = omega (arith, empty_count page); next = empty_next page; zeros = empty_zeros page }
+
+pub empty_says_no_cell : (page : ℕ) → cells_of (empty_page page) ≡ []
+unfolding first_cells
+empty_says_no_cell page = ap (λ n. first_cells n (empty_page page)) (empty_count page)
+
+pub empty_says_no_body : (page : ℕ) → bodies_of (empty_page page) ≡ []
+unfolding first_bodies
+empty_says_no_body page = ap (λ n. first_bodies n (empty_page page)) (empty_count page)

@@ -4,3 +4,8 @@ pub mod Adding
 pub mod Searching
 pub mod Sorting
 pub mod Checks
+pub mod Lists
+pub mod Files
+pub mod Chains
+pub mod Kids
+pub mod Lookups

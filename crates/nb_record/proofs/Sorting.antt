@@ -1,12 +1,13 @@
 -- The order of bodies is the one list of them in which each precedes the next.
-use Rattle.std.proofs.Common.{◌≡◌, ℕ, zero, suc, ◌<◌, Bool, true, false, ◌&&◌, ◌||◌, eqb, ltb, List, [], ◌∷◌, length, map, get_or, sym, subst, refl, inl, inr, arith}
-use Rattle.std.specs.Prelude.{◌≢◌, ◌⊎◌, Contains, IsPermutation}
-use Rattle.std.proofs.lemmas.Bool.{cond-true, cond-false}
+use Rattle.std.proofs.Common.{◌≡◌, ℕ, zero, suc, ◌<◌, ◌+◌, ◌≤◌, Bool, true, false, cond, ◌&&◌, ◌||◌, eqb, ltb, List, [], ◌∷◌, length, map, get_or, sym, subst, refl, inl, inr, arith}
+use Rattle.std.specs.Prelude.{◌≢◌, ◌⊎◌, Contains, IsPermutation, sum_by}
+use Rattle.std.proofs.lemmas.Bool.{cond-true, cond-false, cases_eq}
 use Rattle.std.proofs.lemmas.Bool.Decides.{nat_tests}
 use Rattle.std.specs.List.Sorted.{IsStrictlyIncreasing}
 use Rattle.std.proofs.lemmas.List.{get_or-map, length-map}
 use Rattle.std.proofs.lemmas.List.Kept.{AllPairs-from_increasing}
-use Rattle.std.proofs.lemmas.List.Sorted.{IsPermutation-refl, IsPermutation-sym, IsPermutation-cons, IsPermutation-middle, IsPermutation-trans, Contains-permutation}
+use Rattle.std.proofs.lemmas.List.Sorted.{IsPermutation-refl, IsPermutation-sym, IsPermutation-cons, IsPermutation-middle, IsPermutation-trans, Contains-permutation, sum_by-IsPermutation}
+use Rattle.std.proofs.lemmas.List.Sums.{sum_by-cons}
 use Rattle.nb_model.specs.declared.body.Body.{Body}
 use Rattle.nb_record.specs.Order.{precedes, insert_by, sorted_by, IsSortedByRank, HaveDifferentIds}
 
@@ -22,7 +23,7 @@ before_by m n i j is = grind (arith, nat_tests)
 by_before : (m n i j : ℕ) → (m < n) ⊎ ((m ≡ n) × (i < j)) → (ltb m n || (eqb m n && ltb i j)) ≡ true
 by_before m n i j is = grind (arith, nat_tests)
 
-after_by : (m n i j : ℕ) → i ≢ j → (ltb m n || (eqb m n && ltb i j)) ≡ false → (n < m) ⊎ ((n ≡ m) × (j < i))
+after_by : (m n i j : ℕ) → (m ≡ n → i ≢ j) → (ltb m n || (eqb m n && ltb i j)) ≡ false → (n < m) ⊎ ((n ≡ m) × (j < i))
 after_by m n i j other is = grind (arith, nat_tests)
 
 joined : (l m n h i j : ℕ) → (l < m) ⊎ ((l ≡ m) × (h < i)) → (m < n) ⊎ ((m ≡ n) × (i < j)) → (l < n) ⊎ ((l ≡ n) × (h < j))
@@ -34,11 +35,19 @@ never_both m n i j one other = grind arith
 before : (rank : Body → ℕ) (a b : Body) → precedes rank a b ≡ true → Before rank a b
 before rank a b is = before_by (rank a) (rank b) a.id b.id is
 
-after : (rank : Body → ℕ) (a b : Body) → a.id ≢ b.id → precedes rank a b ≡ false → Before rank b a
+-- the two differ in rank or in id
+abbrev Differ : (Body → ℕ) → Body → Body → Type 0
+Differ rank a b = rank a ≡ rank b → a.id ≢ b.id
+
+after : (rank : Body → ℕ) (a b : Body) → Differ rank a b → precedes rank a b ≡ false → Before rank b a
 after rank a b other is = after_by (rank a) (rank b) a.id b.id other is
 
 before-trans : (rank : Body → ℕ) (a b c : Body) → Before rank a b → Before rank b c → Before rank a c
 before-trans rank a b c first second = joined (rank a) (rank b) (rank c) a.id b.id c.id first second
+
+behind_differs : (m n j k r i : ℕ) → m ≡ r → j ≡ i → (m < n) ⊎ ((m ≡ n) × (j < k)) → n ≡ r → k ≡ i → ⊥
+behind_differs m n j k r i of_rank of_id (inl below) same one = omega arith
+behind_differs m n j k r i of_rank of_id (inr both) same one = omega arith
 
 never : (rank : Body → ℕ) (a b : Body) → Before rank a b → Before rank b a → ⊥
 never rank a b one other = never_both (rank a) (rank b) a.id b.id one other
@@ -72,7 +81,7 @@ insert_nil : (rank : Body → ℕ) (b : Body) → insert_by rank b [] ≡ b ∷ 
 unfolding insert_by
 insert_nil rank b = refl
 
-either : (t : Bool) → (t ≡ true) ⊎ (t ≡ false)
+pub either : (t : Bool) → (t ≡ true) ⊎ (t ≡ false)
 either true = inl refl
 either false = inr refl
 
@@ -84,7 +93,7 @@ each_inserted P rank b (c ∷ cs) here each =
       | inr is ↦ subst (Each P) (sym (insert_behind rank b c cs is)) (each.0, each_inserted P rank b cs here each.1)
     ]
 
-ordered_inserted : (rank : Body → ℕ) (b : Body) (cs : List Body) → Each (λ c. b.id ≢ c.id) cs → Ordered rank cs → Ordered rank (insert_by rank b cs)
+ordered_inserted : (rank : Body → ℕ) (b : Body) (cs : List Body) → Each (Differ rank b) cs → Ordered rank cs → Ordered rank (insert_by rank b cs)
 ordered_inserted rank b [] other ordered = subst (Ordered rank) (sym (insert_nil rank b)) (tt, tt)
 ordered_inserted rank b (c ∷ cs) other ordered =
     elim (either (precedes rank b c)) [
@@ -127,22 +136,88 @@ each_sorted P rank [] each = subst (Each P) (sym (sorted_nil rank)) tt
 each_sorted P rank (b ∷ bs) each =
     subst (Each P) (sym (sorted_cons rank b bs)) (each_inserted P rank b (sorted_by rank bs) each.0 (each_sorted P rank bs each.1))
 
--- the first of a list with different ids differs from each behind it
 each_by_place : (P : Body → Type 0) (bs : List Body) → ((k : ℕ) (d : Body) → k < length bs → P (get_or bs k d)) → Each P bs
 each_by_place P [] at = tt
 each_by_place P (b ∷ bs) at = (at 0 b (omega arith), each_by_place P bs (λ k d below. at (suc k) d (omega arith)))
 
-first_differs : (b : Body) (bs : List Body) → HaveDifferentIds (b ∷ bs) → Each (λ c. b.id ≢ c.id) bs
-first_differs b bs different = each_by_place (λ c. b.id ≢ c.id) bs (λ k d below. different 0 (suc k) d (omega arith) (omega arith))
+-- each body differs from all behind it
+abbrev Apart : (Body → ℕ) → List Body → Type 0
+Apart rank [] = Unit {0}
+Apart rank (b ∷ bs) = Each (Differ rank b) bs × Apart rank bs
 
-rest_differ : (b : Body) (bs : List Body) → HaveDifferentIds (b ∷ bs) → HaveDifferentIds bs
-rest_differ b bs different = λ i j d before within. different (suc i) (suc j) d (omega arith) (omega arith)
+apart_by_ids : (rank : Body → ℕ) (bs : List Body) → HaveDifferentIds bs → Apart rank bs
+apart_by_ids rank [] different = tt
+apart_by_ids rank (b ∷ bs) different = (
+  each_by_place (Differ rank b) bs (λ k d below _. different 0 (suc k) d (omega arith) (omega arith)),
+  apart_by_ids rank bs (λ i j d before within. different (suc i) (suc j) d (omega arith) (omega arith)),
+)
 
-ordered : (rank : Body → ℕ) (bs : List Body) → HaveDifferentIds bs → Ordered rank (sorted_by rank bs)
-ordered rank [] different = subst (Ordered rank) (sym (sorted_nil rank)) tt
-ordered rank (b ∷ bs) different =
+ordered : (rank : Body → ℕ) (bs : List Body) → Apart rank bs → Ordered rank (sorted_by rank bs)
+ordered rank [] apart = subst (Ordered rank) (sym (sorted_nil rank)) tt
+ordered rank (b ∷ bs) apart =
     subst (Ordered rank) (sym (sorted_cons rank b bs))
-    (ordered_inserted rank b (sorted_by rank bs) (each_sorted (λ c. b.id ≢ c.id) rank bs (first_differs b bs different)) (ordered rank bs (rest_differ b bs different)))
+    (ordered_inserted rank b (sorted_by rank bs) (each_sorted (Differ rank b) rank bs apart.0) (ordered rank bs apart.1))
+
+-- ---- bodies of an ordered list differ, in any order
+
+abbrev mark : Bool → ℕ
+mark is = cond is 1 0
+
+-- how many bodies of a list have this rank and this id
+abbrev alike : (Body → ℕ) → ℕ → ℕ → List Body → ℕ
+alike rank r i bs = sum_by (λ b. mark (eqb (rank b) r && eqb b.id i)) bs
+
+one_alike : (m r j i : ℕ) → (m ≡ r) × (j ≡ i) → mark (eqb m r && eqb j i) ≡ 1
+one_alike m r j i same = grind (arith, nat_tests)
+
+none_alike : (m r j i : ℕ) → (m ≡ r → j ≢ i) → mark (eqb m r && eqb j i) ≡ 0
+none_alike m r j i other = grind (arith, nat_tests)
+
+alike_or_not : (m r j i : ℕ) → ((m ≡ r) × (j ≡ i)) ⊎ (m ≡ r → j ≢ i)
+alike_or_not m r j i =
+    elim (cases_eq m r) [
+      | inl same ↦ elim (cases_eq j i) [ inl one ↦ inl (same, one) | inr other ↦ inr (λ _. other) ]
+      | inr other ↦ inr (λ same. absurd (other same))
+    ]
+
+alike-cons : (rank : Body → ℕ) (r i : ℕ) (b : Body) (bs : List Body) → alike rank r i (b ∷ bs) ≡ mark (eqb (rank b) r && eqb b.id i) + alike rank r i bs
+alike-cons rank r i b bs = sum_by-cons (λ c. mark (eqb (rank c) r && eqb c.id i)) b bs
+
+-- behind a body that comes before all of them none is like it
+none_behind : (rank : Body → ℕ) (r i : ℕ) (b : Body) (bs : List Body) → rank b ≡ r → b.id ≡ i → Each (Before rank b) bs → alike rank r i bs ≡ 0
+none_behind rank r i b [] of_rank of_id each = refl
+none_behind rank r i b (c ∷ cs) of_rank of_id each =
+    let other : rank c ≡ r → c.id ≢ i = behind_differs (rank b) (rank c) b.id c.id r i of_rank of_id each.0 in
+    omega (arith, alike-cons rank r i c cs, none_alike (rank c) r c.id i other, none_behind rank r i b cs of_rank of_id each.1)
+
+at_most_one : (rank : Body → ℕ) (r i : ℕ) (bs : List Body) → Ordered rank bs → alike rank r i bs ≤ 1
+at_most_one rank r i [] is = omega arith
+at_most_one rank r i (b ∷ bs) is =
+    elim (alike_or_not (rank b) r b.id i) [
+      | inl same ↦ omega (arith, alike-cons rank r i b bs, one_alike (rank b) r b.id i same, none_behind rank r i b bs same.0 same.1 is.0)
+      | inr other ↦ omega (arith, alike-cons rank r i b bs, none_alike (rank b) r b.id i other, at_most_one rank r i bs is.1)
+    ]
+
+none_differ : (rank : Body → ℕ) (b : Body) (bs : List Body) → alike rank (rank b) b.id bs ≡ 0 → Each (Differ rank b) bs
+none_differ rank b [] none = tt
+none_differ rank b (c ∷ cs) none =
+    let more = alike-cons rank (rank b) b.id c cs in (
+      (λ same one. absurd (omega (arith, more, one_alike (rank c) (rank b) c.id b.id (sym same, sym one)))),
+      none_differ rank b cs (omega (arith, more)),
+    )
+
+apart_by_count : (rank : Body → ℕ) (bs : List Body) → ((r i : ℕ) → alike rank r i bs ≤ 1) → Apart rank bs
+apart_by_count rank [] most = tt
+apart_by_count rank (b ∷ bs) most =
+    let one = one_alike (rank b) (rank b) b.id b.id (refl, refl) in (
+      none_differ rank b bs (omega (arith, most (rank b) b.id, alike-cons rank (rank b) b.id b bs, one)),
+      apart_by_count rank bs (λ r i. omega (arith, most r i, alike-cons rank r i b bs)),
+    )
+
+apart_permuted : (rank : Body → ℕ) (xs ys : List Body) → IsPermutation xs ys → Ordered rank ys → Apart rank xs
+apart_permuted rank xs ys is order =
+    apart_by_count rank xs
+    (λ r i. omega (arith, sum_by-IsPermutation (λ b. mark (eqb (rank b) r && eqb b.id i)) xs ys is, at_most_one rank r i ys order))
 
 -- ---- neighbours, and all
 
@@ -162,7 +237,7 @@ all_before rank (b ∷ []) is = (tt, tt)
 all_before rank (b ∷ c ∷ cs) is = (first_before rank b (c ∷ cs) is, all_before rank (c ∷ cs) is.1)
 
 pub sorted : (rank : Body → ℕ) (bs : List Body) → HaveDifferentIds bs → IsSortedByRank rank (sorted_by rank bs)
-sorted rank bs different = neighbours rank (sorted_by rank bs) (ordered rank bs different)
+sorted rank bs different = neighbours rank (sorted_by rank bs) (ordered rank bs (apart_by_ids rank bs different))
 
 -- ---- no other list
 
@@ -220,14 +295,15 @@ same_list rank (x ∷ xs) (y ∷ ys) left right into back =
     let rest = same_list rank xs ys left.1 right.1 (tail_in rank x xs ys left.0 into_x) (tail_in rank x ys xs right_x back_x) in
     λ i. first i ∷ rest i
 
-pub only : (rank : Body → ℕ) (bs ys : List Body) → HaveDifferentIds bs → IsPermutation bs ys → IsSortedByRank rank ys → ys ≡ sorted_by rank bs
-only rank bs ys different is order =
+pub only : (rank : Body → ℕ) (bs ys : List Body) → IsPermutation bs ys → IsSortedByRank rank ys → ys ≡ sorted_by rank bs
+only rank bs ys is order =
     let from : IsPermutation ys bs = IsPermutation-sym bs ys is in
     let into : IsPermutation ys (sorted_by rank bs) = IsPermutation-trans ys bs (sorted_by rank bs) from (permuted rank bs) in
-    same_list rank ys (sorted_by rank bs) (all_before rank ys order) (ordered rank bs different)
+    let all = all_before rank ys order in
+    same_list rank ys (sorted_by rank bs) all (ordered rank bs (apart_permuted rank bs ys is all))
     (moved ys (sorted_by rank bs) into) (moved (sorted_by rank bs) ys (IsPermutation-sym ys (sorted_by rank bs) into))
 
--- the ids of a valid list differ
+-- ids that rise differ
 pub different_ids : (bs : List Body) → IsStrictlyIncreasing (map (λ b. b.id) bs) → HaveDifferentIds bs
 different_ids bs rises = λ i j d before within.
     let pairs = AllPairs-from_increasing (map (λ b. b.id) bs) rises i j 0 before (omega (arith, length-map bs (λ b. b.id))) in

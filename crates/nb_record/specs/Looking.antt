@@ -35,7 +35,7 @@ abbrev pub IsLook : ℕ → ℕ → Option (List ℕ) → Look → Type 0
 IsLook key page None look = look ≡ Wants page
 IsLook key page (Some bytes) look = IsLookAt key page (read_cell_page page bytes) look
 
--- a cell that is found is of the form
+-- what holds of a cell that is found
 abbrev pub IfFound : Look → (Cell → Type 0) → Type 0
 IfFound (Found cell) P = P cell
 IfFound (Next next) P = ⊤

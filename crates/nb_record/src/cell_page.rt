@@ -1,6 +1,6 @@
 //! A page of cells in borrowed bytes.
 
-ghost use Rattle.std.specs.Prelude.{◌≡◌, ◌<◌, ◌≤◌, length, MatchOption, IfOk};
+ghost use Rattle.std.specs.Prelude.{◌≡◌, ◌<◌, ◌≤◌, length, MatchOption, IfOk, IfSome};
 ghost use Rattle.nb_record.specs.Fields.{word};
 ghost use Rattle.nb_record.specs.Pages.{page_count, page_next, read_cell_page, IsCellPage};
 ghost use Rattle.nb_record.specs.Records.{cell_record, cell_of, IsCell};
@@ -90,7 +90,8 @@ impl<'a> CellPage<'a> {
     /// The place of the first record with this key.
     pub(crate) fn place_of(&self, key: Key) -> Option<u64>
         ensures place { result ≡ place_of_key key self.now }
-        ensures range { MatchOption result (key ≡ key) (λ i. i < page_count self.now) }
+        ensures range { IfSome result (λ i. i < page_count self.now) }
+        ensures found { IfSome result (λ i. word 0 (cell_record i self.now) ≡ key) }
     {
         let number = key.number();
         let count = self.count();

@@ -1,16 +1,25 @@
-//! Laws over pages, records and lists of bodies. Each is a function that does nothing: its contract is the
-//! law, for all pages, cells and bodies.
+//! Laws over pages, records, files and lists of bodies. Each is a function that does nothing: its contract is
+//! the law, for all pages, cells, bodies and files.
 
-ghost use Rattle.std.specs.Prelude.{◌≡◌, ◌↔◌, ℕ, List, length, IsPermutation};
+ghost use Rattle.std.specs.Prelude.{◌≡◌, ◌≢◌, ◌↔◌, ℕ, ◌-◌, ◌/◌, ◌%◌, ◌^◌, ◌<◌, ◌≤◌, List, [], ◌∷◌, ◌++◌};
+ghost use Rattle.std.specs.Prelude.{length, map, slice_get, All, Contains, IsPermutation};
+ghost use Rattle.std.specs.List.Sorted.{IsStrictlyIncreasing};
 ghost use Rattle.nb_model.specs.declared.body.Body.{Body};
 ghost use Rattle.nb_model.specs.Valid.{IsValidBody};
+ghost use Rattle.nb_model.specs.Octree.{in_octant};
 ghost use Rattle.nb_record.specs.declared.cell.Cell.{Cell};
-ghost use Rattle.nb_record.specs.Pages.{read_cell_page, read_body_page, IsCellPage, IsBodyPage};
-ghost use Rattle.nb_record.specs.Records.{body_bytes, body_of, IsBodyRecord, FitsBodyRecord};
-ghost use Rattle.nb_record.specs.Records.{cell_bytes, cell_of, FitsCellRecord};
+ghost use Rattle.nb_record.specs.Fields.{word};
+ghost use Rattle.nb_record.specs.Pages.{page_count, read_cell_page, read_body_page, IsCellPage, IsBodyPage};
+ghost use Rattle.nb_record.specs.Records.{body_record, body_bytes, body_of, bodies_of};
+ghost use Rattle.nb_record.specs.Records.{IsBodyRecord, FitsBodyRecord};
+ghost use Rattle.nb_record.specs.Records.{cell_record, cell_bytes, cell_of, cells_of, FitsCellRecord};
+ghost use Rattle.nb_record.specs.Looking.{place_of_key};
 ghost use Rattle.nb_record.specs.Order.{sorted_by, HaveDifferentIds, IsSortedByRank};
+ghost use Rattle.nb_record.specs.Order.{page_of, pages_for, count_on, HoldsBodies};
+ghost use Rattle.nb_record.specs.Cells.{kids_of};
+ghost use Rattle.nb_record.specs.Table.{next_of, chain, cells_on_chain, IsCellTable};
 
-use crate::sizes::{BODY_SIZE, CELL_SIZE};
+use crate::sizes::{BODIES_PER_PAGE, BODY_SIZE, CELL_SIZE, CELLS_PER_PAGE, HEADER_SIZE, PAGE_SIZE};
 
 /// A check answers the page exactly where its header is of the form.
 pub fn law_checks()
@@ -33,14 +42,106 @@ pub fn law_bodies()
     ensures size { (body : Body) → length (body_bytes body) ≡ BODY_SIZE }
 {}
 
-/// Bodies with different ids have one order: the sorted list has each of them once, each precedes the next in
-/// it, and no other list is so.
+/// The sorted list has each body once. Where the ids differ, as ids that rise do, each body precedes the next
+/// in it. A list of the same bodies in which each precedes the next is the sorted one.
 pub fn law_sorted_by()
     ensures permutation { (rank : Body → ℕ) (bodies : List Body)
         → IsPermutation bodies (sorted_by rank bodies) }
     ensures sorted { (rank : Body → ℕ) (bodies : List Body) → HaveDifferentIds bodies
         → IsSortedByRank rank (sorted_by rank bodies) }
-    ensures only { (rank : Body → ℕ) (bodies list : List Body) → HaveDifferentIds bodies
-        → IsPermutation bodies list
+    ensures only { (rank : Body → ℕ) (bodies list : List Body) → IsPermutation bodies list
         → IsSortedByRank rank list → list ≡ sorted_by rank bodies }
+    ensures ids { (bodies : List Body) → IsStrictlyIncreasing (map (λ b. b.id) bodies)
+        → HaveDifferentIds bodies }
+{}
+
+/// A page of cells says as many cells as it counts, each at its place. The place of a key is that of the
+/// first cell with it, and there is none exactly where no cell has it.
+pub fn law_page_cells()
+    ensures count { (bytes : List ℕ) → length (cells_of bytes) ≡ page_count bytes }
+    ensures cell { (bytes : List ℕ) (i : ℕ) → i < page_count bytes
+        → slice_get (cells_of bytes) i ≡ Some (cell_of (cell_record i bytes)) }
+    ensures found { (bytes : List ℕ) (key i : ℕ) → place_of_key key bytes ≡ Some i
+        → (i < page_count bytes) × (word 0 (cell_record i bytes) ≡ key) }
+    ensures first { (bytes : List ℕ) (key i : ℕ) → place_of_key key bytes ≡ Some i
+        → (j : ℕ) → j < i → word 0 (cell_record j bytes) ≢ key }
+    ensures lacks { (bytes : List ℕ) (key : ℕ)
+        → ((place_of_key key bytes ≡ None) ↔ All (λ cell. cell.key ≢ key) (cells_of bytes)) }
+{}
+
+/// A page of bodies says as many bodies as it counts, each at its place.
+pub fn law_page_bodies()
+    ensures count { (bytes : List ℕ) → length (bodies_of bytes) ≡ page_count bytes }
+    ensures body { (bytes : List ℕ) (i : ℕ) → i < page_count bytes
+        → slice_get (bodies_of bytes) i ≡ Some (body_of (body_record i bytes)) }
+{}
+
+/// Body j of a file stands on one of the file's pages, at one of the page's records. A file holds one list.
+pub fn law_body_files()
+    ensures page { (count j : ℕ) → j < count → j / BODIES_PER_PAGE < pages_for count }
+    ensures place { (count j : ℕ) → j < count
+        → j % BODIES_PER_PAGE < count_on count (j / BODIES_PER_PAGE) }
+    ensures one { (file : List ℕ) (a b : List Body) → HoldsBodies file a → HoldsBodies file b
+        → a ≡ b }
+{}
+
+/// A chain of a table has rising pages of the file. It is a page, and the chain from its next page on where
+/// it has one, and any bound of pages that reaches the end of the file gives the whole of it.
+pub fn law_chains()
+    ensures later { (file : List ℕ) (bits pages : ℕ) (cells : List Cell)
+        → IsCellTable file bits pages cells → (p : ℕ) → p < pages → next_of file p ≢ 0
+        → (p < next_of file p) × (next_of file p < pages) }
+    ensures rising { (file : List ℕ) (bits pages : ℕ) (cells : List Cell)
+        → IsCellTable file bits pages cells → (n p : ℕ) → p < pages
+        → IsStrictlyIncreasing (chain file n p) }
+    ensures within { (file : List ℕ) (bits pages : ℕ) (cells : List Cell)
+        → IsCellTable file bits pages cells → (n p : ℕ) → p < pages
+        → All (λ q. (p ≤ q) × (q < pages)) (chain file n p) }
+    ensures whole { (file : List ℕ) (bits pages : ℕ) (cells : List Cell)
+        → IsCellTable file bits pages cells → (n p : ℕ) → p < pages → pages - p ≤ n
+        → chain file n p ≡ chain file pages p }
+    ensures last { (file : List ℕ) (bits pages : ℕ) (cells : List Cell)
+        → IsCellTable file bits pages cells → (p : ℕ) → p < pages → next_of file p ≡ 0
+        → chain file pages p ≡ p ∷ [] }
+    ensures more { (file : List ℕ) (bits pages : ℕ) (cells : List Cell)
+        → IsCellTable file bits pages cells → (p : ℕ) → p < pages → next_of file p ≢ 0
+        → chain file pages p ≡ p ∷ chain file pages (next_of file p) }
+{}
+
+/// The chain of a key begins at a page of the file, and its cells, page by page, are cells of the table.
+/// Where none of them has the key, no cell of the table has it.
+pub fn law_lookups()
+    ensures start { (file : List ℕ) (bits pages : ℕ) (cells : List Cell)
+        → IsCellTable file bits pages cells → (key : ℕ) → key % 2 ^ bits < pages }
+    ensures last { (file : List ℕ) (bits pages : ℕ) (cells : List Cell)
+        → IsCellTable file bits pages cells → (p : ℕ) → p < pages → next_of file p ≡ 0
+        → cells_on_chain file pages p ≡ cells_of (page_of file p) }
+    ensures more { (file : List ℕ) (bits pages : ℕ) (cells : List Cell)
+        → IsCellTable file bits pages cells → (p : ℕ) → p < pages → next_of file p ≢ 0
+        → cells_on_chain file pages p
+        ≡ cells_of (page_of file p) ++ cells_on_chain file pages (next_of file p) }
+    ensures held { (file : List ℕ) (bits pages : ℕ) (cells : List Cell)
+        → IsCellTable file bits pages cells → (h : ℕ) → h < 2 ^ bits
+        → All (λ cell. Contains cells cell) (cells_on_chain file pages h) }
+    ensures gone { (file : List ℕ) (bits pages : ℕ) (cells : List Cell)
+        → IsCellTable file bits pages cells → (key : ℕ)
+        → All (λ cell. cell.key ≢ key) (cells_on_chain file pages (key % 2 ^ bits))
+        → All (λ cell. cell.key ≢ key) cells }
+{}
+
+/// A cell's kids have a bit for each of the eight octants, which is set exactly where the octant isn't empty.
+/// So a cell that is divided has a kid.
+pub fn law_kids()
+    ensures bit { (level octant : ℕ) (bodies : List Body) → octant < 8
+        → ((kids_of level bodies / 2 ^ octant % 2 ≡ 1) ↔ (in_octant level bodies octant ≢ [])) }
+    ensures range { (level : ℕ) (bodies : List Body) → kids_of level bodies < 256 }
+    ensures some { (level : ℕ) (body : Body) (bodies : List Body) → kids_of level (body ∷ bodies) ≢ 0 }
+{}
+
+/// The sizes of a page and of its parts, in bytes, and the most records of a page.
+pub fn law_sizes()
+    ensures page { PAGE_SIZE ≡ 4096 }
+    ensures header { HEADER_SIZE ≡ 32 }
+    ensures records { (BODY_SIZE ≡ 64) × (CELL_SIZE ≡ 64) }
+    ensures most { (BODIES_PER_PAGE ≡ 63) × (CELLS_PER_PAGE ≡ 63) }
 {}

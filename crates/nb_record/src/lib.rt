@@ -25,7 +25,10 @@ pub use body_page::BodyPage;
 pub use cell::{Cell, CellView};
 pub use cell_page::CellPage;
 pub use header::PageError;
-pub use laws::{law_bodies, law_cells, law_checks, law_sorted_by};
+pub use laws::{
+    law_bodies, law_body_files, law_cells, law_chains, law_checks, law_kids, law_lookups,
+    law_page_bodies, law_page_cells, law_sizes, law_sorted_by,
+};
 pub use lender::Lender;
 pub use search_page::look;
 pub use sizes::{BODIES_PER_PAGE, BODY_SIZE, CELL_SIZE, CELLS_PER_PAGE, HEADER_SIZE, PAGE_SIZE};

@@ -15,6 +15,7 @@ use nb_key::Key;
 pub fn look<L: Lender>(lender: &L, key: Key, page: u64) -> Look<'_>
     ensures look { IsLook key page (L.cells lender.now page) result }
     ensures found { IfFound result IsCell }
+    ensures wanted { IfFound result (λ cell. cell.key ≡ key) }
     ensures later { IfNext result (λ next. page < next) }
 {
     match lender.cell_page(page) {
@@ -28,6 +29,7 @@ pub fn look<L: Lender>(lender: &L, key: Key, page: u64) -> Look<'_>
 fn look_on<'a>(cells: &CellPage<'a>, key: Key, page: u64) -> Look<'a>
     ensures look { IsLookOn page cells.now (place_of_key key cells.now) result }
     ensures found { IfFound result IsCell }
+    ensures wanted { IfFound result (λ cell. cell.key ≡ key) }
 {
     match cells.place_of(key) {
         Some(i) => match cells.cell(i) {

@@ -22,6 +22,7 @@ pub fn begin_body_page(into: &mut [u8], page: u64)
     ensures number { page_number into.new ≡ page }
     ensures form { IsBodyPage (page_number into.new) into.new }
     ensures count { page_count into.new ≡ 0 }
+    ensures bodies { bodies_of into.new ≡ [] }
 {
     clear(into);
     put_word(into, NUMBER_AT, page);
@@ -33,7 +34,9 @@ pub fn begin_cell_page(into: &mut [u8], page: u64)
     ensures bytes { into.new ≡ empty_page page }
     ensures number { page_number into.new ≡ page }
     ensures form { IsCellPage (page_number into.new) into.new }
+    ensures next { page_next into.new ≡ 0 }
     ensures count { page_count into.new ≡ 0 }
+    ensures cells { cells_of into.new ≡ [] }
 {
     clear(into);
     put_word(into, NUMBER_AT, page);

@@ -1,5 +1,5 @@
-use Rattle.nb_record.proofs.Sorting.{permuted, sorted, only}
+use Rattle.nb_record.proofs.Sorting.{permuted, sorted, only, different_ids}
 use Rattle.nb_record.proofs.laws.law_sorted_by.Goals as goal
 
 pub returns : goal.returns
-returns c = record { permutation = permuted; sorted = sorted; only = only }
+returns c = record { permutation = permuted; sorted = sorted; only = only; ids = different_ids }

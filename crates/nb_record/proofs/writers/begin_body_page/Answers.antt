@@ -1,6 +1,6 @@
 use Rattle.std.proofs.Common.{arith}
 use Rattle.nb_record.specs.Writing.{empty_page}
-use Rattle.nb_record.proofs.Adding.{numbered_bodies, empty_bodies, empty_count}
+use Rattle.nb_record.proofs.Adding.{numbered_bodies, empty_bodies, empty_count, empty_says_no_body}
 use Rattle.nb_record.proofs.writers.begin_body_page.Goals as goal
 
 pub returns-clause-number : goal.returns-clause-number
@@ -11,3 +11,6 @@ returns-clause-form c = rw (c.put_word.ensures, c.clear.ensures) (numbered_bodie
 
 pub returns-clause-count : goal.returns-clause-count
 returns-clause-count c = rw (c.put_word.ensures, c.clear.ensures) (empty_count c.args.page)
+
+pub returns-clause-bodies : goal.returns-clause-bodies
+returns-clause-bodies c = rw (c.put_word.ensures, c.clear.ensures) (empty_says_no_body c.args.page)

@@ -1,6 +1,6 @@
 use Rattle.std.proofs.Common.{arith}
 use Rattle.nb_record.specs.Writing.{empty_page}
-use Rattle.nb_record.proofs.Adding.{numbered_cells, empty_cells, empty_count}
+use Rattle.nb_record.proofs.Adding.{numbered_cells, empty_cells, empty_count, empty_next, empty_says_no_cell}
 use Rattle.nb_record.proofs.writers.begin_cell_page.Goals as goal
 
 pub returns-clause-number : goal.returns-clause-number
@@ -11,3 +11,9 @@ returns-clause-form c = rw (c.put_word.ensures, c.clear.ensures) (numbered_cells
 
 pub returns-clause-count : goal.returns-clause-count
 returns-clause-count c = rw (c.put_word.ensures, c.clear.ensures) (empty_count c.args.page)
+
+pub returns-clause-next : goal.returns-clause-next
+returns-clause-next c = rw (c.put_word.ensures, c.clear.ensures) (empty_next c.args.page)
+
+pub returns-clause-cells : goal.returns-clause-cells
+returns-clause-cells c = rw (c.put_word.ensures, c.clear.ensures) (empty_says_no_cell c.args.page)
