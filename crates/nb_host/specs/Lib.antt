@@ -1,6 +1,11 @@
 pub mod Channels
 pub mod Counts
+pub mod Crashes
+pub mod Disk
+pub mod DiskLaws
 pub mod Faults
 pub mod Files
 pub mod Image
 pub mod Memory
+pub mod Plan
+pub mod Record

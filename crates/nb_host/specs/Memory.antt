@@ -1,17 +1,42 @@
 -- What a host in memory shows, and what each of its calls does to its counts.
-use Rattle.std.specs.Prelude.{◌≡◌, ◌≢◌, ℕ, ◌+◌, List, Contains, Result, Err, IsErr}
+use Rattle.std.specs.Prelude.{◌≡◌, ◌≢◌, ℕ, List, Result, Err, IsErr}
 use Rattle.nb_host.specs.declared.host.HostError.{HostError}
 use Rattle.nb_host.specs.declared.host.HostError.TheVariants.{Fault}
 use Rattle.nb_host.specs.declared.host.Channel.{Channel}
+use Rattle.nb_host.specs.declared.disk.MemoryDisk.{MemoryDisk}
+use Rattle.nb_host.specs.declared.fuse.Fuse.{Fuse}
+use Rattle.nb_host.specs.declared.fuse.Fuse.TheVariants.{Blown}
 use Rattle.nb_host.specs.declared.memory.MemoryHost.{MemoryHost}
-use Rattle.nb_host.specs.Channels.{said_on, refused_on}
+use Rattle.nb_host.specs.Channels.{refused_on}
 use Rattle.nb_host.specs.Counts.{next_count}
-use Rattle.nb_host.specs.Files.{file_in}
+use Rattle.nb_host.specs.Crashes.{CrashModel}
+use Rattle.nb_host.specs.Disk.{Disk, Event, contents_on, crash_model_by, disk_after}
 use Rattle.nb_host.specs.Image.{Image}
+use Rattle.nb_host.specs.Plan.{IsDueBy, burnt}
+use Rattle.nb_host.specs.Record.{recorded}
+
+-- what each call did to the files and channels since the disk was made, the newest first
+abbrev pub events_in : MemoryDisk → List Event
+events_in disk = recorded disk.entries.items
+
+-- the disk that they made
+abbrev pub disk_in : MemoryDisk → Disk
+disk_in disk = disk_after (events_in disk)
+
+-- the same of the host
+abbrev pub events_of : MemoryHost → List Event
+events_of host = events_in host.disk
+
+abbrev pub disk_of : MemoryHost → Disk
+disk_of host = disk_after (events_of host)
 
 -- what the files hold and what was said
 abbrev pub contents_of : MemoryHost → Image
-contents_of host = record { file = file_in host.files; said = said_on host.channels }
+contents_of host = contents_on (disk_of host)
+
+-- what a crash may leave, by the disk model: the host is honest
+abbrev pub crashes_of : CrashModel MemoryHost
+crashes_of = crash_model_by events_of
 
 -- how many host calls were made
 abbrev pub calls_of : MemoryHost → ℕ
@@ -37,16 +62,25 @@ failing_of host = host.plan.failing.items
 abbrev pub calls_since_set : MemoryHost → ℕ
 calls_since_set host = host.plan.since
 
+-- how far the fuse is
+abbrev pub fuse_of : MemoryHost → Fuse
+fuse_of host = host.plan.fuse
+
 -- the next host call is set to fail
 abbrev pub IsDue : MemoryHost → Type 0
-IsDue host = Contains (failing_of host) (calls_since_set host + 1)
+IsDue host = IsDueBy (fuse_of host) (failing_of host) (calls_since_set host)
+
+-- the fuse's first failing call has come
+abbrev pub IsBlown : MemoryHost → Type 0
+IsBlown host = fuse_of host ≡ Blown
 
 -- A host call counts once, whatever it answers. Where it is set to fail it answers Fault, unless memory is
--- wanting, and nowhere else does it answer Fault. Each Fault counts. What is set to fail stays set.
+-- wanting, and nowhere else does it answer Fault. Each Fault counts. What is set to fail stays set, and the fuse burns on.
 pub record CountsCall {T : Type 0} (old new : MemoryHost) (result : Result T HostError) : Type 0 where
   pub calls : calls_of new ≡ next_count (calls_of old)
   pub since : calls_since_set new ≡ next_count (calls_since_set old)
   pub failing : failing_of new ≡ failing_of old
+  pub fuse : fuse_of new ≡ burnt (fuse_of old)
   pub due : IsDue old → IsErr result
   pub only_due : result ≡ Err Fault → IsDue old
   pub faulted : result ≡ Err Fault → faults_of new ≡ next_count (faults_of old)
@@ -63,3 +97,4 @@ pub record KeepsCounts (old new : MemoryHost) : Type 0 where
 pub record KeepsFailing (old new : MemoryHost) : Type 0 where
   pub failing : failing_of new ≡ failing_of old
   pub since : calls_since_set new ≡ calls_since_set old
+  pub fuse : fuse_of new ≡ fuse_of old

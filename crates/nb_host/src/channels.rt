@@ -43,7 +43,7 @@ impl Channels {
         ensures ok { OnOk result (said_on self.new channel ≡ said_on self.old channel ++ bytes.now) }
         ensures others { (other : Channel) → other ≢ channel
             → said_on self.new other ≡ said_on self.old other }
-        ensures err { OnErr result (said_on self.new ≡ said_on self.old) }
+        ensures err { OnErr result ((other : Channel) → said_on self.new other ≡ said_on self.old other) }
     {
         match channel {
             Channel::Out => Ok(self.out.extend_from_slice(bytes)?),

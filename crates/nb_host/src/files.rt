@@ -1,111 +1,145 @@
 //! The files of a host in memory.
 
-ghost use Rattle.std.specs.Prelude.{◌≡◌, ◌≢◌, ℕ, ◌+◌, ◌<◌, ◌≤◌, List, [], ◌++◌, length, take, drop, replicate, ◌-◌, OnOk, OnErr};
-ghost use Rattle.nb_host.specs.Image.{overwritten};
+ghost use Rattle.std.specs.Prelude.{◌≡◌, ℕ, ◌+◌, ◌<◌, ◌≤◌, ◌==◌, [], length, OnOk, OnErr, IfOk};
+ghost use Rattle.std.specs.List.{position_or_len};
+ghost use Rattle.nb_host.specs.Disk.{synced_file, written_file, cut_file, left_file, with_change};
+ghost use Rattle.nb_host.specs.declared.outcome.Outcome.TheVariants.{Lost, Filled};
 
 use crate::PLACE_LIMIT;
+use crate::stored_file::StoredFile;
 use nb_model::NoMemory;
 use std::alloc::Global;
-use std::collections::BTreeMap;
 
-/// The bytes of each file, by its number. A file that isn't there has none.
+/// Each file that was written, cut or placed, in that order. One that isn't there has no bytes.
 #[derive(Drop)]
 pub struct Files {
     alloc: Global,
-    map: BTreeMap<u64, Vec<u8>>,
+    list: Vec<StoredFile>,
 }
 
 impl Files {
-    ghost use Rattle.nb_host.specs.Files.{file_in};
+    ghost use Rattle.nb_host.specs.Files.{file_in, KeepsFiles, ready_in};
 
     /// No files. Takes no memory.
     pub fn new(alloc: Global) -> Self
-        ensures { (number : ℕ) → file_in result number ≡ [] }
+        ensures { (number : ℕ) → file_in result number ≡ synced_file [] }
     {
         Files {
             alloc,
-            map: BTreeMap::new(alloc),
+            list: Vec::new(alloc),
         }
     }
 
-    /// The bytes of a file.
+    /// The bytes of a file as they read.
     pub fn bytes(&self, number: u64) -> &[u8]
-        ensures { result.now ≡ file_in self.now number }
+        ensures { result.now ≡ (file_in self.now number).reads }
     {
-        match self.map.get(&number) {
-            Some(bytes) => bytes.as_slice(),
-            None => &[],
+        let index = self.find(number);
+        if index == self.list.len() {
+            return &[];
         }
+        self.list[index].bytes()
     }
 
-    /// Gives a file these bytes in place of those that it had.
-    pub fn put(&mut self, number: u64, bytes: &[u8]) -> Result<(), NoMemory>
-        ensures ok { OnOk result (file_in self.new number ≡ bytes.now) }
-        ensures others { (other : ℕ) → other ≢ number → file_in self.new other ≡ file_in self.old other }
-        ensures err { OnErr result (file_in self.new ≡ file_in self.old) }
+    /// Gives a file these bytes, durable, in place of those that it had.
+    pub fn place(&mut self, number: u64, bytes: &[u8]) -> Result<(), NoMemory>
+        ensures ok { OnOk result ((other : ℕ) → file_in self.new other
+            ≡ with_change number (λ _. synced_file bytes.now) (file_in self.old) other) }
+        ensures err { OnErr result (KeepsFiles self.old self.new) }
     {
-        self.map.insert(number, bytes.to_vec(self.alloc)?)?;
+        let bytes = bytes.to_vec(self.alloc)?;
+        let index = self.slot(number)?;
+        self.list[index].place(bytes);
         Ok(())
     }
 
-    /// Writes the bytes into a file at this place, in bytes, behind zeros where the place lies past its end.
-    pub fn write(&mut self, number: u64, at: u64, bytes: &[u8]) -> Result<(), NoMemory>
-        requires { at + length bytes.now < PLACE_LIMIT }
-        ensures ok { OnOk result (file_in self.new number
-            ≡ overwritten at bytes.now (file_in self.old number)) }
-        ensures others { (other : ℕ) → other ≢ number → file_in self.new other ≡ file_in self.old other }
-        ensures err { OnErr result (file_in self.new ≡ file_in self.old) }
+    /// Writes the first `done` of the bytes into a file at a place, in bytes, behind zeros where that lies
+    /// past its end. The range of all the bytes counts as written.
+    pub fn write(&mut self, number: u64, at: u64, bytes: &[u8], done: usize) -> Result<(), NoMemory>
+        requires place { at + length bytes.now < PLACE_LIMIT }
+        requires part { done ≤ length bytes.now }
+        ensures ok { OnOk result ((other : ℕ) → file_in self.new other
+            ≡ with_change number (written_file at bytes.now done) (file_in self.old) other) }
+        ensures err { OnErr result (KeepsFiles self.old self.new) }
     {
-        if bytes.is_empty() {
-            return Ok(());
-        }
-        if let Some(file) = self.map.get_mut(&number) {
-            return overwrite(file, at as usize, bytes);
-        }
-        let mut file = Vec::new(self.alloc);
-        overwrite(&mut file, at as usize, bytes)?;
-        self.map.insert(number, file)?;
-        Ok(())
+        let index = self.slot(number)?;
+        self.list[index].write(at, bytes, done)
     }
 
     /// Cuts a file off behind its first bytes, so many.
-    pub fn cut(&mut self, number: u64, len: u64)
-        ensures file { file_in self.new number ≡ take len (file_in self.old number) }
-        ensures others { (other : ℕ) → other ≢ number → file_in self.new other ≡ file_in self.old other }
+    pub fn cut(&mut self, number: u64, len: u64) -> Result<(), NoMemory>
+        ensures ok { OnOk result ((other : ℕ) → file_in self.new other
+            ≡ with_change number (cut_file len) (file_in self.old) other) }
+        ensures err { OnErr result (KeepsFiles self.old self.new) }
     {
-        if let Some(file) = self.map.get_mut(&number) {
-            file.truncate(len as usize);
+        let index = self.slot(number)?;
+        self.list[index].cut(len)
+    }
+
+    /// Makes what reads durable in each file.
+    pub fn sync(&mut self)
+        ensures { (number : ℕ) → file_in self.new number ≡ synced_file (file_in self.old number).reads }
+    {
+        for file in self.list.iter_mut() {
+            file.sync();
         }
     }
-}
 
-// Writes some bytes into the file. Only its growth can want memory, and comes first.
-fn overwrite(file: &mut Vec<u8>, at: usize, bytes: &[u8]) -> Result<(), NoMemory>
-    requires some { 0 < length bytes.now }
-    requires place { at + length bytes.now < PLACE_LIMIT }
-    ensures ok { OnOk result (file.new.items ≡ overwritten at bytes.now file.old.items) }
-    ensures err { OnErr result (file.new.items ≡ file.old.items) }
-{
-    grow(file, at + bytes.len())?;
-    replace(file, at, bytes);
-    Ok(())
-}
-
-// Puts the bytes at the place in the file, which reaches to their end.
-fn replace(file: &mut [u8], at: usize, bytes: &[u8])
-    requires { at + length bytes.now ≤ length file.old }
-    ensures { file.new ≡ take at file.old ++ bytes.now ++ drop (at + length bytes.now) file.old }
-{
-    file[at..at + bytes.len()].copy_from_slice(bytes);
-}
-
-// Makes the file so long, by zeros at its end, where it is shorter.
-fn grow(file: &mut Vec<u8>, len: usize) -> Result<(), NoMemory>
-    ensures ok { OnOk result (file.new.items ≡ file.old.items ++ replicate (len - length file.old.items) 0) }
-    ensures err { OnErr result (file.new.items ≡ file.old.items) }
-{
-    if file.len() < len {
-        file.resize(len, 0)?;
+    /// Goes back to the bytes of the last sync in each file.
+    pub fn lose(&mut self)
+        ensures { (number : ℕ) → file_in self.new number
+            ≡ synced_file (left_file Lost (file_in self.old number)) }
+    {
+        for file in self.list.iter_mut() {
+            file.lose();
+        }
     }
-    Ok(())
+
+    /// Makes ready what a crash that fills with this byte leaves of each file.
+    pub fn prepare(&mut self, filler: u8) -> Result<(), NoMemory>
+        ensures ok { OnOk result ((number : ℕ) → ready_in self.new number
+            ≡ synced_file (left_file (Filled filler) (file_in self.old number))) }
+        ensures same { KeepsFiles self.old self.new }
+    {
+        for file in self.list.iter_mut() {
+            file.prepare(filler)?;
+        }
+        Ok(())
+    }
+
+    /// Makes what was made ready the bytes of each file, durable.
+    pub fn fill(&mut self)
+        ensures { (number : ℕ) → file_in self.new number ≡ ready_in self.old number }
+    {
+        for file in self.list.iter_mut() {
+            file.fill();
+        }
+    }
+
+    // The index of a file, or how many there are where it isn't there.
+    fn find(&self, number: u64) -> usize
+        ensures index { result ≡ position_or_len (λ file. file.number == number) self.now.list.items }
+        ensures within { result ≤ length self.now.list.items }
+    {
+        for (index, file) in self.list.iter().enumerate() {
+            if file.number == number {
+                return index;
+            }
+        }
+        self.list.len()
+    }
+
+    // The index of a file, which is added without bytes where it isn't there.
+    fn slot(&mut self, number: u64) -> Result<usize, NoMemory>
+        ensures index { IfOk result (λ index. index
+            ≡ position_or_len (λ file. file.number == number) self.new.list.items) }
+        ensures within { IfOk result (λ index. index < length self.new.list.items) }
+        ensures same { KeepsFiles self.old self.new }
+    {
+        let index = self.find(number);
+        if index == self.list.len() {
+            self.list.push(StoredFile::new(self.alloc, number))?;
+        }
+        Ok(index)
+    }
 }

@@ -72,6 +72,11 @@ pub trait Host {
     /// How many calls of `say` on each channel were refused.
     ghost refused_says: { Self → Channel → ℕ };
 
+    /// What a crash may leave of the files and of what was said, now and since each moment. It is known of an
+    /// honest host alone: one that returns what was written, and whose syncs that succeed make it durable.
+    ghost crashes: { CrashModel Self };
+
+    ghost use Rattle.nb_host.specs.Crashes.{CrashModel, ImagesFollow, Stays, IsDurable, LeavesContents, LeavesSaid, CountsNow, CountsOnlyNow};
     ghost use Rattle.nb_host.specs.Faults.{CountsFault, CountsRefusedSay};
     ghost use Rattle.nb_host.specs.Image.{Image, IsOverwritten, IsCut, IsTorn, IsPartlyCut, FileBecomes, Says, SaysPart, readable};
 
@@ -82,6 +87,7 @@ pub trait Host {
             → n ≡ length ((contents self.old).file file)) }
         ensures same { contents self.new ≡ contents self.old }
         ensures told { tells self.new ≡ tells self.old }
+        ensures images { ImagesFollow crashes self.old self.new Stays }
         ensures fault { CountsFault (faults self.old) (faults self.new) result }
         ensures refused { refused_says self.new ≡ refused_says self.old };
 
@@ -97,6 +103,7 @@ pub trait Host {
             → take n into.new ≡ readable at (length into.old) ((contents self.old).file file)) }
         ensures same { contents self.new ≡ contents self.old }
         ensures told { tells self.new ≡ tells self.old }
+        ensures images { ImagesFollow crashes self.old self.new Stays }
         ensures fault { CountsFault (faults self.old) (faults self.new) result }
         ensures refused { refused_says self.new ≡ refused_says self.old };
 
@@ -112,6 +119,9 @@ pub trait Host {
             → FileBecomes file (IsTorn at (length bytes.now)) (contents self.old) (contents self.new) }
         ensures no_memory { result ≡ Err HostError.NoMemory → contents self.new ≡ contents self.old }
         ensures told { tells self.new ≡ tells self.old }
+        ensures images { ImagesFollow crashes self.old self.new
+            (FileBecomes file (IsTorn at (length bytes.now))) }
+        ensures idle { result ≡ Err HostError.NoMemory → ImagesFollow crashes self.old self.new Stays }
         ensures fault { CountsFault (faults self.old) (faults self.new) result }
         ensures refused { refused_says self.new ≡ refused_says self.old };
 
@@ -125,6 +135,8 @@ pub trait Host {
             → FileBecomes file (IsPartlyCut len) (contents self.old) (contents self.new) }
         ensures no_memory { result ≡ Err HostError.NoMemory → contents self.new ≡ contents self.old }
         ensures told { tells self.new ≡ tells self.old }
+        ensures images { ImagesFollow crashes self.old self.new (FileBecomes file (IsPartlyCut len)) }
+        ensures idle { result ≡ Err HostError.NoMemory → ImagesFollow crashes self.old self.new Stays }
         ensures fault { CountsFault (faults self.old) (faults self.new) result }
         ensures refused { refused_says self.new ≡ refused_says self.old };
 
@@ -132,6 +144,8 @@ pub trait Host {
     fn sync(&mut self) -> Result<(), HostError>
         ensures same { contents self.new ≡ contents self.old }
         ensures told { tells self.new ≡ tells self.old }
+        ensures images { ImagesFollow crashes self.old self.new Stays }
+        ensures durable { OnOk result (IsDurable crashes contents self.new) }
         ensures fault { CountsFault (faults self.old) (faults self.new) result }
         ensures refused { refused_says self.new ≡ refused_says self.old };
 
@@ -143,7 +157,24 @@ pub trait Host {
             → SaysPart channel bytes.now (contents self.old) (contents self.new) }
         ensures no_memory { result ≡ Err HostError.NoMemory → contents self.new ≡ contents self.old }
         ensures told { tells self.new ≡ tells self.old }
+        ensures images { ImagesFollow crashes self.old self.new (SaysPart channel bytes.now) }
+        ensures idle { result ≡ Err HostError.NoMemory → ImagesFollow crashes self.old self.new Stays }
         ensures fault { CountsFault (faults self.old) (faults self.new) result }
         ensures refused { IsTrue (tells self.old)
             → CountsRefusedSay channel (refused_says self.old) (refused_says self.new) result };
+
+    /// An honest host tells its contents.
+    ghost tells_if_honest: { (host : Self) → IsTrue (crashes.is_honest host) → IsTrue (tells host) };
+
+    /// What reads is one of the images that a crash may leave.
+    ghost leaves_contents: { LeavesContents crashes contents };
+
+    /// What was said stays.
+    ghost leaves_said: { LeavesSaid crashes contents };
+
+    /// What a crash may leave now, it may have left at some moment from an earlier one on.
+    ghost counts_now: { CountsNow crashes };
+
+    /// What a crash may have left from now on, it may leave now.
+    ghost counts_only_now: { CountsOnlyNow crashes };
 }

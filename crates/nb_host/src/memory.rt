@@ -1,88 +1,135 @@
 //! The host in memory, which tells everything and fails where it is told to.
 
-ghost use Rattle.std.specs.Prelude.{◌≡◌, ◌≢◌, ℕ, ◌+◌, ◌<◌, ◌≤◌, [], ◌++◌, length, take, drop, true, OnOk, OnErr, IfOk, Err, is_ok, if◌then◌else◌};
+ghost use Rattle.std.specs.Prelude.{◌≡◌, ◌≢◌, ◌⊎◌, ℕ, ◌+◌, ◌/◌, ◌<◌, ◌≤◌, [], ◌∷◌, ◌++◌, length, take, drop, true, OnOk, OnErr, IfOk, Err};
 ghost use Rattle.nb_host.specs.Counts.{next_count, first_half};
+ghost use Rattle.nb_host.specs.Crashes.{ImagesFollow, Stays, IsDurable, IsDurableFile};
+ghost use Rattle.nb_host.specs.Disk.{Wrote, Cut, Synced, Said, Placed, Crashed, IsCrashImage, left_file};
 ghost use Rattle.nb_host.specs.Faults.{CountsFault, CountsRefusedSay};
+ghost use Rattle.nb_host.specs.Plan.{part_by};
 ghost use Rattle.nb_host.specs.Image.{IsOverwritten, IsTorn, IsCut, IsPartlyCut, FileBecomes, Says, SaysPart, readable};
+ghost use Rattle.nb_host.specs.declared.fuse.Fuse.TheVariants.{Unset, Burning};
 ghost use Rattle.nb_host.specs.declared.host.HostError.TheVariants.{Fault};
 ghost use Rattle.nb_host.specs.declared.host.Channel.{Channel};
 
-use crate::channels::{Channels, Refusals};
-use crate::files::Files;
+use crate::channels::Refusals;
+use crate::disk::MemoryDisk;
+use crate::fate::Fate;
 use crate::plan::Plan;
-use crate::{Channel, Host, HostError, PLACE_LIMIT};
+use crate::{Channel, Host, HostError, Outcome, PLACE_LIMIT};
 use nb_model::NoMemory;
 use std::alloc::Global;
 
-/// Files and channels in memory. It tells all that it holds, and fails at the host calls that `fail_at` names
-/// and at no other. Every count stands still at 2^64 - 1.
+/// Files and channels in memory. It tells all that it holds, and fails at the host calls that `fail_at` and
+/// `fuse` name and at no other. It records what each call did, so that it can say which images a crash may
+/// leave, and crash. Every count stands still at 2^64 - 1.
 #[derive(Drop)]
 pub struct MemoryHost {
-    files: Files,
-    channels: Channels,
+    disk: MemoryDisk,
     refusals: Refusals,
     plan: Plan,
     reads: u64,
 }
 
 impl MemoryHost {
-    ghost use Rattle.nb_host.specs.Memory.{contents_of, calls_of, reads_of, faults_of, refused_of, failing_of, calls_since_set, CountsCall, KeepsCounts, KeepsFailing};
+    ghost use Rattle.nb_host.specs.Memory.{events_of, disk_of, contents_of, crashes_of, calls_of, reads_of, faults_of, refused_of, failing_of, fuse_of, calls_since_set, IsBlown, CountsCall, KeepsCounts, KeepsFailing};
 
     /// No files, nothing said, no calls, and none set to fail. Takes no memory.
     pub fn new(alloc: Global) -> MemoryHost
         ensures files { (file : ℕ) → (contents_of result).file file ≡ [] }
         ensures said { (channel : Channel) → (contents_of result).said channel ≡ [] }
+        ensures events { events_of result ≡ [] }
+        ensures durable { IsDurable crashes_of contents_of result }
         ensures calls { calls_of result ≡ 0 }
         ensures reads { reads_of result ≡ 0 }
         ensures faults { faults_of result ≡ 0 }
         ensures refused { (channel : Channel) → refused_of result channel ≡ 0 }
         ensures failing { failing_of result ≡ [] }
         ensures since { calls_since_set result ≡ 0 }
+        ensures fuse { fuse_of result ≡ Unset }
     {
         MemoryHost {
-            files: Files::new(alloc),
-            channels: Channels::new(alloc),
+            disk: MemoryDisk::new(alloc),
             refusals: Refusals::new(),
             plan: Plan::new(alloc),
             reads: 0,
         }
     }
 
-    /// Gives the file these bytes. It is no host call, and isn't counted.
+    /// Gives the file these bytes, durable. It is no host call, and isn't counted.
     pub fn with_file(&mut self, file: u64, bytes: &[u8]) -> Result<(), NoMemory>
         ensures ok { OnOk result
             (FileBecomes file (λ _ now. now ≡ bytes.now) (contents_of self.old) (contents_of self.new)) }
+        ensures durable { OnOk result (IsDurableFile crashes_of contents_of file self.new) }
+        ensures placed { OnOk result (events_of self.new ≡ Placed file bytes.now ∷ events_of self.old) }
         ensures err { OnErr result (contents_of self.new ≡ contents_of self.old) }
+        ensures nothing { OnErr result (events_of self.new ≡ events_of self.old) }
         ensures counts { KeepsCounts self.old self.new }
         ensures failing { KeepsFailing self.old self.new }
     {
-        self.files.put(file, bytes)
+        self.disk.place(file, bytes)
     }
 
     /// Sets the host calls with these numbers to fail, counted from 1 from here on, in place of those set
-    /// before.
+    /// before. Such a call answers Fault. A write or a say then does the first half of its bytes, rounded
+    /// down, and any other call nothing.
     pub fn fail_at(&mut self, calls: &[u64]) -> Result<(), NoMemory>
         ensures failing { OnOk result (failing_of self.new ≡ calls.now) }
         ensures since { OnOk result (calls_since_set self.new ≡ 0) }
+        ensures fuse { fuse_of self.new ≡ fuse_of self.old }
         ensures err { OnErr result (KeepsFailing self.old self.new) }
+        ensures events { events_of self.new ≡ events_of self.old }
         ensures contents { contents_of self.new ≡ contents_of self.old }
         ensures counts { KeepsCounts self.old self.new }
     {
         self.plan.set(calls)
     }
 
+    /// Lets so many host calls pass from here on, but for those that `fail_at` names, in place of a fuse set
+    /// before. Every later one answers Fault. The first of those is half done, as one that `fail_at` names,
+    /// and each after it does nothing.
+    pub fn fuse(&mut self, calls: u64)
+        ensures fuse { fuse_of self.new ≡ Burning calls }
+        ensures failing { failing_of self.new ≡ failing_of self.old }
+        ensures since { calls_since_set self.new ≡ calls_since_set self.old }
+        ensures events { events_of self.new ≡ events_of self.old }
+        ensures counts { KeepsCounts self.old self.new }
+    {
+        self.plan.light(calls);
+    }
+
+    /// Crashes. What the outcome leaves of each file is durable, what was said stays, no call is set to fail
+    /// any more, and the fuse is gone. It is no host call, and isn't counted.
+    pub fn crash(&mut self, outcome: Outcome) -> Result<(), NoMemory>
+        ensures image { OnOk result (IsCrashImage (disk_of self.old) (contents_of self.new)) }
+        ensures durable { OnOk result (IsDurable crashes_of contents_of self.new) }
+        ensures left { OnOk result ((file : ℕ) → (contents_of self.new).file file
+            ≡ left_file outcome ((disk_of self.old).file file)) }
+        ensures said { OnOk result ((contents_of self.new).said ≡ (contents_of self.old).said) }
+        ensures crashed { OnOk result (events_of self.new ≡ Crashed outcome ∷ events_of self.old) }
+        ensures images { ImagesFollow crashes_of self.old self.new Stays }
+        ensures failing { OnOk result (failing_of self.new ≡ []) }
+        ensures fuse { OnOk result (fuse_of self.new ≡ Unset) }
+        ensures nothing { OnErr result (events_of self.new ≡ events_of self.old) }
+        ensures err { OnErr result (KeepsFailing self.old self.new) }
+        ensures counts { KeepsCounts self.old self.new }
+    {
+        self.disk.crash(outcome)?;
+        self.plan.clear();
+        Ok(())
+    }
+
     /// The bytes of a file: none of one that isn't there.
     pub fn bytes(&self, file: u64) -> &[u8]
         ensures { result.now ≡ (contents_of self.now).file file }
     {
-        self.files.bytes(file)
+        self.disk.bytes(file)
     }
 
     /// The bytes said on a channel.
     pub fn said(&self, channel: Channel) -> &[u8]
         ensures { result.now ≡ (contents_of self.now).said channel }
     {
-        self.channels.said(channel)
+        self.disk.said(channel)
     }
 
     /// How many host calls were made.
@@ -106,32 +153,38 @@ impl MemoryHost {
         self.plan.faults()
     }
 
-    // Says the bytes, or the first half of them where the call is set to fail. It counts no refused say.
+    // Says the bytes, or the first half of them where the call is set to fail, and none once the fuse has
+    // blown. It counts no refused say.
     fn speak(&mut self, channel: Channel, bytes: &[u8]) -> Result<(), HostError>
-        ensures said { OnOk result (Says channel bytes.now (contents_of self.old) (contents_of self.new)) }
-        ensures part { SaysPart channel bytes.now (contents_of self.old) (contents_of self.new) }
-        ensures half_said { result ≡ Err Fault
-            → Says channel (first_half bytes.now) (contents_of self.old) (contents_of self.new) }
-        ensures no_memory { result ≡ Err HostError.NoMemory → contents_of self.new ≡ contents_of self.old }
+        ensures ok { OnOk result
+            (events_of self.new ≡ Said channel bytes.now (length bytes.now) ∷ events_of self.old) }
+        ensures half { result ≡ Err Fault → (IsBlown self.old → ⊥)
+            → events_of self.new ≡ Said channel bytes.now (length bytes.now / 2) ∷ events_of self.old }
+        ensures nothing { IsBlown self.old → events_of self.new ≡ events_of self.old }
+        ensures no_memory { result ≡ Err HostError.NoMemory → events_of self.new ≡ events_of self.old }
+        ensures spoken { (events_of self.new ≡ events_of self.old)
+            ⊎ ((done : ℕ) × (events_of self.new ≡ Said channel bytes.now done ∷ events_of self.old)) }
         ensures fault { CountsFault (faults_of self.old) (faults_of self.new) result }
         ensures call { CountsCall self.old self.new result }
         ensures reads { reads_of self.new ≡ reads_of self.old }
         ensures refused { refused_of self.new ≡ refused_of self.old }
     {
-        let fails = self.plan.begin();
-        self.channels.say(channel, part_of(bytes, fails))?;
-        self.plan.end(fails)
+        let fate = self.plan.begin();
+        if fate == Fate::Nothing {
+            return self.plan.end(fate);
+        }
+        self.disk.say(channel, bytes, part_of(bytes.len(), fate))?;
+        self.plan.end(fate)
     }
 }
 
-// What a call does of its bytes: the first half, rounded down, where it fails.
-fn part_of(bytes: &[u8], fails: bool) -> &[u8]
-    ensures { result.now ≡ (if fails then first_half bytes.now else bytes.now) }
+// How many of its bytes, so many in all, a call does: the first half of them, rounded down, where it fails.
+fn part_of(len: usize, fate: Fate) -> usize
+    ensures { result ≡ part_by fate len }
 {
-    if fails {
-        &bytes[..bytes.len() / 2]
-    } else {
-        bytes
+    match fate {
+        Fate::Passes => len,
+        Fate::HalfDone | Fate::Nothing => len / 2,
     }
 }
 
@@ -149,7 +202,8 @@ fn read(file: &[u8], at: usize, into: &mut [u8]) -> usize
 // Each method has the trait's clauses, which here need no host that tells, and says exactly what it does
 // besides.
 impl Host for MemoryHost {
-    ghost use Rattle.nb_host.specs.Memory.{contents_of, reads_of, faults_of, refused_of, CountsCall};
+    ghost use Rattle.nb_host.specs.DiskLaws.{contents_is_image, image_counts, counts_only_now};
+    ghost use Rattle.nb_host.specs.Memory.{events_of, contents_of, crashes_of, reads_of, faults_of, refused_of, IsBlown, CountsCall};
 
     ghost tells = { λ _. true };
 
@@ -159,18 +213,32 @@ impl Host for MemoryHost {
 
     ghost refused_says = { refused_of };
 
+    ghost crashes = { crashes_of };
+
+    ghost tells_if_honest = { λ _ honest. honest };
+
+    ghost leaves_contents = { λ host _. contents_is_image (events_of host) };
+
+    ghost leaves_said = { λ _ _ _ is. is.said };
+
+    ghost counts_now = { λ host moment image _ _ is. image_counts (events_of host) moment image is };
+
+    ghost counts_only_now = { λ host image _ since. counts_only_now (events_of host) image since };
+
     fn len(&mut self, file: u64) -> Result<u64, HostError>
         ensures length { IfOk result (λ n. n ≡ length ((contents_of self.old).file file)) }
         ensures same { contents_of self.new ≡ contents_of self.old }
+        ensures images { ImagesFollow crashes_of self.old self.new Stays }
+        ensures nothing { events_of self.new ≡ events_of self.old }
         ensures fault { CountsFault (faults_of self.old) (faults_of self.new) result }
         ensures call { CountsCall self.old self.new result }
         ensures reads { reads_of self.new ≡ reads_of self.old }
         ensures refused { refused_of self.new ≡ refused_of self.old }
         ensures needs_no_memory { result ≢ Err HostError.NoMemory }
     {
-        let fails = self.plan.begin();
-        self.plan.end(fails)?;
-        Ok(self.files.bytes(file).len() as u64)
+        let fate = self.plan.begin();
+        self.plan.end(fate)?;
+        Ok(self.disk.bytes(file).len() as u64)
     }
 
     fn read_at(&mut self, file: u64, at: u64, into: &mut [u8]) -> Result<usize, HostError>
@@ -183,6 +251,8 @@ impl Host for MemoryHost {
             ≡ readable at (length into.old) ((contents_of self.old).file file) ++ drop n into.old) }
         ensures untouched { OnErr result (into.new ≡ into.old) }
         ensures same { contents_of self.new ≡ contents_of self.old }
+        ensures images { ImagesFollow crashes_of self.old self.new Stays }
+        ensures nothing { events_of self.new ≡ events_of self.old }
         ensures fault { CountsFault (faults_of self.old) (faults_of self.new) result }
         ensures call { CountsCall self.old self.new result }
         ensures reads { reads_of self.new ≡ next_count (reads_of self.old) }
@@ -190,9 +260,9 @@ impl Host for MemoryHost {
         ensures needs_no_memory { result ≢ Err HostError.NoMemory }
     {
         self.reads = self.reads.saturating_add(1);
-        let fails = self.plan.begin();
-        self.plan.end(fails)?;
-        Ok(read(self.files.bytes(file), at as usize, into))
+        let fate = self.plan.begin();
+        self.plan.end(fate)?;
+        Ok(read(self.disk.bytes(file), at as usize, into))
     }
 
     fn write_at(&mut self, file: u64, at: u64, bytes: &[u8]) -> Result<(), HostError>
@@ -201,52 +271,85 @@ impl Host for MemoryHost {
             (FileBecomes file (IsOverwritten at bytes.now) (contents_of self.old) (contents_of self.new)) }
         ensures torn { FileBecomes file (IsTorn at (length bytes.now))
             (contents_of self.old) (contents_of self.new) }
-        ensures half_written { result ≡ Err Fault → FileBecomes file (IsOverwritten at (first_half bytes.now))
-            (contents_of self.old) (contents_of self.new) }
         ensures no_memory { result ≡ Err HostError.NoMemory → contents_of self.new ≡ contents_of self.old }
+        ensures images { ImagesFollow crashes_of self.old self.new
+            (FileBecomes file (IsTorn at (length bytes.now))) }
+        ensures idle { result ≡ Err HostError.NoMemory → ImagesFollow crashes_of self.old self.new Stays }
+        ensures ok { OnOk result
+            (events_of self.new ≡ Wrote file at bytes.now (length bytes.now) ∷ events_of self.old) }
+        ensures half { result ≡ Err Fault → (IsBlown self.old → ⊥)
+            → events_of self.new ≡ Wrote file at bytes.now (length bytes.now / 2) ∷ events_of self.old }
+        ensures half_written { result ≡ Err Fault → (IsBlown self.old → ⊥)
+            → FileBecomes file (IsOverwritten at (first_half bytes.now))
+            (contents_of self.old) (contents_of self.new) }
+        ensures nothing { IsBlown self.old → events_of self.new ≡ events_of self.old }
         ensures fault { CountsFault (faults_of self.old) (faults_of self.new) result }
         ensures call { CountsCall self.old self.new result }
         ensures reads { reads_of self.new ≡ reads_of self.old }
         ensures refused { refused_of self.new ≡ refused_of self.old }
     {
-        let fails = self.plan.begin();
-        self.files.write(file, at, part_of(bytes, fails))?;
-        self.plan.end(fails)
+        let fate = self.plan.begin();
+        if fate == Fate::Nothing {
+            return self.plan.end(fate);
+        }
+        self.disk
+            .write(file, at, bytes, part_of(bytes.len(), fate))?;
+        self.plan.end(fate)
     }
 
     fn cut(&mut self, file: u64, len: u64) -> Result<(), HostError>
         ensures cut { OnOk result
             (FileBecomes file (IsCut len) (contents_of self.old) (contents_of self.new)) }
         ensures partly { FileBecomes file (IsPartlyCut len) (contents_of self.old) (contents_of self.new) }
-        ensures nothing { OnErr result (contents_of self.new ≡ contents_of self.old) }
+        ensures images { ImagesFollow crashes_of self.old self.new (FileBecomes file (IsPartlyCut len)) }
+        ensures idle { result ≡ Err HostError.NoMemory → ImagesFollow crashes_of self.old self.new Stays }
+        ensures ok { OnOk result (events_of self.new ≡ Cut file len ∷ events_of self.old) }
+        ensures nothing { OnErr result (events_of self.new ≡ events_of self.old) }
         ensures fault { CountsFault (faults_of self.old) (faults_of self.new) result }
         ensures call { CountsCall self.old self.new result }
         ensures reads { reads_of self.new ≡ reads_of self.old }
         ensures refused { refused_of self.new ≡ refused_of self.old }
     {
-        let fails = self.plan.begin();
-        self.plan.end(fails)?;
-        self.files.cut(file, len);
-        Ok(())
+        let fate = self.plan.begin();
+        if fate != Fate::Passes {
+            return self.plan.end(fate);
+        }
+        self.disk.cut(file, len)?;
+        self.plan.end(fate)
     }
 
     fn sync(&mut self) -> Result<(), HostError>
         ensures same { contents_of self.new ≡ contents_of self.old }
+        ensures images { ImagesFollow crashes_of self.old self.new Stays }
+        ensures durable { OnOk result (IsDurable crashes_of contents_of self.new) }
+        ensures ok { OnOk result (events_of self.new ≡ Synced ∷ events_of self.old) }
+        ensures nothing { OnErr result (events_of self.new ≡ events_of self.old) }
         ensures fault { CountsFault (faults_of self.old) (faults_of self.new) result }
         ensures call { CountsCall self.old self.new result }
         ensures reads { reads_of self.new ≡ reads_of self.old }
         ensures refused { refused_of self.new ≡ refused_of self.old }
     {
-        let fails = self.plan.begin();
-        self.plan.end(fails)
+        let fate = self.plan.begin();
+        if fate != Fate::Passes {
+            return self.plan.end(fate);
+        }
+        self.disk.sync()?;
+        self.plan.end(fate)
     }
 
     fn say(&mut self, channel: Channel, bytes: &[u8]) -> Result<(), HostError>
         ensures said { OnOk result (Says channel bytes.now (contents_of self.old) (contents_of self.new)) }
         ensures part { SaysPart channel bytes.now (contents_of self.old) (contents_of self.new) }
-        ensures half_said { result ≡ Err Fault
-            → Says channel (first_half bytes.now) (contents_of self.old) (contents_of self.new) }
         ensures no_memory { result ≡ Err HostError.NoMemory → contents_of self.new ≡ contents_of self.old }
+        ensures images { ImagesFollow crashes_of self.old self.new (SaysPart channel bytes.now) }
+        ensures idle { result ≡ Err HostError.NoMemory → ImagesFollow crashes_of self.old self.new Stays }
+        ensures ok { OnOk result
+            (events_of self.new ≡ Said channel bytes.now (length bytes.now) ∷ events_of self.old) }
+        ensures half { result ≡ Err Fault → (IsBlown self.old → ⊥)
+            → events_of self.new ≡ Said channel bytes.now (length bytes.now / 2) ∷ events_of self.old }
+        ensures half_said { result ≡ Err Fault → (IsBlown self.old → ⊥)
+            → Says channel (first_half bytes.now) (contents_of self.old) (contents_of self.new) }
+        ensures nothing { IsBlown self.old → events_of self.new ≡ events_of self.old }
         ensures fault { CountsFault (faults_of self.old) (faults_of self.new) result }
         ensures call { CountsCall self.old self.new result }
         ensures reads { reads_of self.new ≡ reads_of self.old }

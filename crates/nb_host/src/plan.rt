@@ -1,15 +1,20 @@
-//! Which host calls are set to fail, and how many were made and failed.
+//! Which host calls fail, and how many were made and failed.
 
-ghost use Rattle.std.specs.Prelude.{◌≡◌, ℕ, ◌+◌, ◌↔◌, [], Contains, IsTrue, OnOk, OnErr, Ok, Err, if◌then◌else◌};
+ghost use Rattle.std.specs.Prelude.{◌≡◌, ◌+◌, ◌↔◌, [], Contains, IsTrue, OnOk, OnErr};
 ghost use Rattle.nb_host.specs.Counts.{next_count};
 ghost use Rattle.nb_host.specs.Faults.{CountsFault};
-ghost use Rattle.nb_host.specs.declared.host.HostError.TheVariants.{Fault};
+ghost use Rattle.nb_host.specs.Plan.{burnt, IsDueBy, answer_of, faults_after};
+ghost use Rattle.nb_host.specs.declared.fate.Fate.TheVariants.{Passes, Nothing};
+ghost use Rattle.nb_host.specs.declared.fuse.Fuse.TheVariants.{Unset, Burning, Blown};
 
 use crate::HostError;
+use crate::fate::Fate;
+use crate::fuse::Fuse;
 use nb_model::NoMemory;
 use std::alloc::Global;
 
-/// The host calls that are set to fail, and the counts. Every count stands still at the end of its type.
+/// The host calls that are set to fail, by their numbers and by a fuse, and the counts. Every count stands
+/// still at the end of its type.
 #[derive(Drop)]
 pub struct Plan {
     alloc: Global,
@@ -17,6 +22,7 @@ pub struct Plan {
     failing: Vec<u64>,
     /// How many calls were made since then.
     since: u64,
+    fuse: Fuse,
     calls: u64,
     faults: u64,
 }
@@ -26,6 +32,7 @@ impl Plan {
     pub fn new(alloc: Global) -> Self
         ensures failing { result.failing.items ≡ [] }
         ensures since { result.since ≡ 0 }
+        ensures fuse { result.fuse ≡ Unset }
         ensures calls { result.calls ≡ 0 }
         ensures faults { result.faults ≡ 0 }
     {
@@ -33,6 +40,7 @@ impl Plan {
             alloc,
             failing: Vec::new(alloc),
             since: 0,
+            fuse: Fuse::Unset,
             calls: 0,
             faults: 0,
         }
@@ -56,6 +64,7 @@ impl Plan {
     pub fn set(&mut self, calls: &[u64]) -> Result<(), NoMemory>
         ensures failing { OnOk result (self.new.failing.items ≡ calls.now) }
         ensures since { OnOk result (self.new.since ≡ 0) }
+        ensures fuse { self.new.fuse ≡ self.old.fuse }
         ensures calls { self.new.calls ≡ self.old.calls }
         ensures faults { self.new.faults ≡ self.old.faults }
         ensures err { OnErr result (self.new ≡ self.old) }
@@ -65,30 +74,57 @@ impl Plan {
         Ok(())
     }
 
-    /// Counts a call that begins, and says whether it is set to fail.
-    pub fn begin(&mut self) -> bool
-        ensures due { IsTrue result ↔ Contains self.old.failing.items (self.old.since + 1) }
-        ensures counts { self.new
-            ≡ record self.old { since = next_count self.old.since; calls = next_count self.old.calls } }
+    /// Sets a fuse that lets so many calls pass from here on, in place of one set before.
+    pub fn light(&mut self, calls: u64)
+        ensures { self.new ≡ record self.old { fuse = Burning calls } }
     {
-        let due = has_next(&self.failing, self.since);
-        self.since = self.since.saturating_add(1);
-        self.calls = self.calls.saturating_add(1);
-        due
+        self.fuse = Fuse::Burning(calls);
     }
 
-    /// What a call answers that has done its part: Fault, and counted, where it is set to fail.
-    pub fn end(&mut self, fails: bool) -> Result<(), HostError>
-        ensures answer { result ≡ (if fails then Err Fault else Ok tt) }
-        ensures fault { CountsFault self.old.faults self.new.faults result }
-        ensures counts { self.new
-            ≡ record self.old { faults = if fails then next_count self.old.faults else self.old.faults } }
+    /// Sets no call to fail from here on.
+    pub fn clear(&mut self)
+        ensures failing { self.new.failing.items ≡ [] }
+        ensures since { self.new.since ≡ 0 }
+        ensures fuse { self.new.fuse ≡ Unset }
+        ensures calls { self.new.calls ≡ self.old.calls }
+        ensures faults { self.new.faults ≡ self.old.faults }
     {
-        if fails {
-            self.faults = self.faults.saturating_add(1);
-            return Err(HostError::Fault);
+        self.failing = Vec::new(self.alloc);
+        self.since = 0;
+        self.fuse = Fuse::Unset;
+    }
+
+    /// Counts a call that begins, and says what it does.
+    pub fn begin(&mut self) -> Fate
+        ensures due { (result ≡ Passes → ⊥) ↔ IsDueBy self.old.fuse self.old.failing.items self.old.since }
+        ensures nothing { result ≡ Nothing ↔ self.old.fuse ≡ Blown }
+        ensures counts { self.new ≡ record self.old {
+          since = next_count self.old.since;
+          fuse = burnt self.old.fuse;
+          calls = next_count self.old.calls;
+        } }
+    {
+        let named = has_next(&self.failing, self.since);
+        let fate = self.fuse.fate(named);
+        self.since = self.since.saturating_add(1);
+        self.fuse = self.fuse.next();
+        self.calls = self.calls.saturating_add(1);
+        fate
+    }
+
+    /// What a call answers that has done its part: Fault, and counted, where it doesn't pass.
+    pub fn end(&mut self, fate: Fate) -> Result<(), HostError>
+        ensures answer { result ≡ answer_of fate }
+        ensures fault { CountsFault self.old.faults self.new.faults result }
+        ensures counts { self.new ≡ record self.old { faults = faults_after fate self.old.faults } }
+    {
+        match fate {
+            Fate::Passes => Ok(()),
+            Fate::HalfDone | Fate::Nothing => {
+                self.faults = self.faults.saturating_add(1);
+                Err(HostError::Fault)
+            }
         }
-        Ok(())
     }
 }
 

@@ -170,7 +170,7 @@ fn refused_memory_changes_nothing(rt: HostRuntime) -> Result<(), Fail> {
     if host.fail_at(&[1, 2]).is_ok() {
         fails = true;
     }
-    assert_eq!(rt; host.sync().is_err(), fails);
+    assert_eq!(rt; host.sync() == Err(HostError::Fault), fails);
     let answer = host.say(Channel::Err, b"half");
     let heard = match answer {
         Ok(()) => b"half".as_slice(),
@@ -182,5 +182,132 @@ fn refused_memory_changes_nothing(rt: HostRuntime) -> Result<(), Fail> {
     assert_eq!(rt; host.calls(), 5);
     assert_eq!(rt; host.bytes(FILE), file);
     assert_eq!(rt; host.bytes(FILE + 1), other);
+
+    // The sync made all durable, unless it was set to fail.
+    if host.crash(Outcome::Filled(b'?')).is_ok() && fails {
+        file = if file.len() == 4 { b"????" } else { file };
+        other = if other.len() == 2 { b"??" } else { other };
+    }
+    assert_eq!(rt; host.bytes(FILE), file);
+    assert_eq!(rt; host.bytes(FILE + 1), other);
+    Ok(())
+}
+
+// What a host does to a file before it crashes.
+fn change(host: &mut MemoryHost, step: u8) -> Result<(), HostError> {
+    match step {
+        0 => host.write_at(FILE, 1, b"XY"),
+        1 => host.write_at(FILE, 8, b"X"),
+        2 => host.write_at(FILE, 9, b""),
+        3 => host.cut(FILE, 2),
+        4 => host.sync(),
+        _ => host.write_at(FILE, 0, b"Z"),
+    }
+}
+
+#[test]
+fn crashes(rt: HostRuntime) -> Result<(), Fail> {
+    let table = [
+        // written within, past the end, and nothing; cut; cut and written past the new end; synced between
+        (
+            b"".as_slice(),
+            b"abcdef".as_slice(),
+            b"abcdef".as_slice(),
+            b"abcdef".as_slice(),
+        ),
+        (b"\0", b"aXYdef", b"abcdef", b"aAAdef"),
+        (b"\x01", b"abcdef\0\0X", b"abcdef", b"abcdefAAA"),
+        (b"\x02", b"abcdef", b"abcdef", b"abcdef"),
+        (b"\x03", b"ab", b"abcdef", b"abAAAA"),
+        (b"\x03\x01", b"ab\0\0\0\0\0\0X", b"abcdef", b"abAAAAAAA"),
+        (b"\0\x04\x05", b"ZXYdef", b"aXYdef", b"AXYdef"),
+        (b"\x03\x04\0", b"aXY", b"ab", b"aAA"),
+    ];
+    for (steps, kept, lost, filled) in table {
+        let outcomes = [
+            (Outcome::Kept, kept),
+            (Outcome::Lost, lost),
+            (Outcome::Filled(b'A'), filled),
+        ];
+        for (outcome, want) in outcomes {
+            let mut host = with_bytes(rt.alloc(), b"abcdef")?;
+            host.with_file(FILE + 1, b"abc")?;
+            for step in steps {
+                assert_eq!(rt; change(&mut host, *step), Ok(()));
+            }
+            host.crash(outcome)?;
+            assert_eq!(rt; host.bytes(FILE), want);
+            // What a crash left is durable.
+            host.crash(Outcome::Lost)?;
+            assert_eq!(rt; host.bytes(FILE), want);
+            assert_eq!(rt; host.bytes(FILE + 1), b"abc".as_slice());
+        }
+    }
+    Ok(())
+}
+
+#[test]
+fn crashes_after_half_a_write(rt: HostRuntime) -> Result<(), Fail> {
+    let table = [
+        (Outcome::Kept, b"abc\0\0X".as_slice()),
+        (Outcome::Lost, b"abc"),
+        // The whole range that the call would have written is unsynced.
+        (Outcome::Filled(0x41), b"abcAAAA"),
+    ];
+    for (outcome, want) in table {
+        let mut host = with_bytes(rt.alloc(), b"abc")?;
+        host.fail_at(&[1])?;
+        assert_eq!(rt; host.write_at(FILE, 5, b"XY"), Err(HostError::Fault));
+        assert_eq!(rt; (host.calls(), host.faults()), (1, 1));
+        host.crash(outcome)?;
+        assert_eq!(rt; host.bytes(FILE), want);
+    }
+    Ok(())
+}
+
+#[test]
+fn fuse_and_numbers(rt: HostRuntime) -> Result<(), Fail> {
+    let mut host = with_bytes(rt.alloc(), b"abcd")?;
+    host.fail_at(&[1, 3, 5, 7])?;
+    host.fuse(2);
+    // half, by its number; whole; half, as the first that the fuse fails; and nothing from there on
+    assert_eq!(rt; host.write_at(FILE, 0, b"PQ"), Err(HostError::Fault));
+    assert_eq!(rt; host.write_at(FILE, 1, b"R"), Ok(()));
+    assert_eq!(rt; host.write_at(FILE, 2, b"STUV"), Err(HostError::Fault));
+    assert_eq!(rt; host.bytes(FILE), b"PRST".as_slice());
+    assert_eq!(rt; host.write_at(FILE, 0, b"WX"), Err(HostError::Fault));
+    assert_eq!(rt; host.write_at(FILE, 0, b"WX"), Err(HostError::Fault));
+    assert_eq!(rt; host.say(Channel::Out, b"said"), Err(HostError::Fault));
+    assert_eq!(rt; host.bytes(FILE), b"PRST".as_slice());
+    assert_eq!(rt; host.said(Channel::Out), b"".as_slice());
+    assert_eq!(rt; (host.calls(), host.faults()), (6, 5));
+
+    // A new fuse takes the old one's place, and the numbers count on.
+    host.fuse(1);
+    assert_eq!(rt; host.say(Channel::Out, b"said"), Err(HostError::Fault));
+    assert_eq!(rt; host.say(Channel::Out, b"said"), Err(HostError::Fault));
+    assert_eq!(rt; host.sync(), Err(HostError::Fault));
+    assert_eq!(rt; host.said(Channel::Out), b"sasa".as_slice());
+
+    // After a crash none is set to fail, and what was said stays.
+    host.crash(Outcome::Lost)?;
+    assert_eq!(rt; host.bytes(FILE), b"abcd".as_slice());
+    assert_eq!(rt; host.sync(), Ok(()));
+    assert_eq!(rt; host.said(Channel::Out), b"sasa".as_slice());
+    assert_eq!(rt; (host.calls(), host.faults()), (10, 8));
+    Ok(())
+}
+
+#[test]
+fn crashes_after_a_page(rt: HostRuntime) -> Result<(), Fail> {
+    for (outcome, want) in [(Outcome::Lost, 0), (Outcome::Kept, 0x41)] {
+        let mut host = MemoryHost::new(rt.alloc());
+        host.with_file(3, &[0; 4096])?;
+        host.with_file(2, b"abc")?;
+        assert_eq!(rt; host.write_at(3, 0, &[0x41; 4096]), Ok(()));
+        host.crash(outcome)?;
+        assert_eq!(rt; host.bytes(3), [want; 4096].as_slice());
+        assert_eq!(rt; host.bytes(2), b"abc".as_slice());
+    }
     Ok(())
 }

@@ -1,7 +1,7 @@
 -- The file has grown to the range's end, so the bytes put there are the write.
 use Rattle.std.proofs.Common.{◌∙◌}
 use Rattle.nb_host.proofs.Grown.{written_back}
-use Rattle.nb_host.proofs.files.overwrite.Goals as goal
+use Rattle.nb_host.proofs.stored_file.overwrite.Goals as goal
 
 pub returns-clause-ok : goal.returns-clause-ok
 returns-clause-ok c =

@@ -1,0 +1,11 @@
+use Rattle.std.proofs.Common.{◌≡◌}
+use Rattle.nb_host.specs.Disk.{synced_file}
+use Rattle.nb_host.specs.Files.{disk_file_of}
+use Rattle.nb_host.specs.declared.stored_file.StoredFile.{StoredFile}
+use Rattle.nb_host.proofs.Places.{IsDone}
+use Rattle.nb_host.proofs.files.Files.sync.Given as goal
+
+abbrev pub invariant-loop-file : goal.invariant-loop-file
+invariant-loop-file l =
+    let done : StoredFile → StoredFile → Type 0 = λ old new. (new.number ≡ old.number) × (disk_file_of new ≡ synced_file (disk_file_of old).reads) in
+    IsDone done l.fn.self.list.items l.file-items l.file-index

@@ -1,0 +1,80 @@
+-- What a crash may leave of a host's files and channels, and how a stretch of calls changes that.
+use Rattle.std.specs.Prelude.{◌≡◌, ℕ, ◌≤◌, ◌⊎◌, Bool, IsTrue, List, Contains}
+use Rattle.nb_host.specs.Image.{Image}
+
+-- A host's meanings of a crash. It is honest where it returns what was written, and where a sync that succeeds makes what
+-- the files hold outlast a crash. A crash now may leave one of some images, and a crash at some moment from a given one
+-- on, within calls too, may have left one of some more. Moments never fall.
+pub record CrashModel (H : Type 0) : Type 1 where
+  pub is_honest : H → Bool
+  pub may_leave : H → Image → Type 0
+  pub moment : H → ℕ
+  pub left_since : H → ℕ → Image → Type 0
+
+-- Each image that a crash may have left since the old host was, but for those that it may have left before, is an image
+-- of the old host or follows from one by the step.
+pub record Follows {H : Type 0} (model : CrashModel H) (old new : H) (step : Image → Image → Type 0) : Type 0 where
+  pub later : model.moment old ≤ model.moment new
+  pub now : (image : Image) → model.may_leave new image
+      → (start : Image) × model.may_leave old start × step start image
+  pub since : (moment : ℕ) (image : Image) → moment ≤ model.moment old → model.left_since new moment image
+      → model.left_since old moment image ⊎ ((start : Image) × model.may_leave old start × step start image)
+  pub keeps : (moment : ℕ) (image : Image) → moment ≤ model.moment old → model.left_since old moment image
+      → model.left_since new moment image
+
+-- A stretch of calls leads from the old host to the new one. It neither begins nor ends that the host is honest, and each
+-- image of an honest one, at every moment of the stretch and within its calls, follows by the step from an image at its
+-- start.
+pub record ImagesFollow {H : Type 0} (model : CrashModel H) (old new : H) (step : Image → Image → Type 0) : Type 0 where
+  pub honest : model.is_honest new ≡ model.is_honest old
+  pub follows : IsTrue (model.is_honest old) → Follows model old new step
+
+-- an image that stays as it is
+abbrev pub Stays : Image → Image → Type 0
+Stays old new = new ≡ old
+
+-- Two images agree in every file but these, and in what was said.
+pub record AgreesOutside (files : List ℕ) (old new : Image) : Type 0 where
+  pub others : (number : ℕ) → (Contains files number → ⊥) → new.file number ≡ old.file number
+  pub said : new.said ≡ old.said
+
+-- A stretch of calls changes only these files: every image since its start agrees, in every other file and in what was
+-- said, with an image at its start.
+abbrev pub ChangesOnly : {H : Type 0} → CrashModel H → List ℕ → H → H → Type 0
+ChangesOnly model files old new = ImagesFollow model old new (AgreesOutside files)
+
+-- Every image since the old host was has this property.
+abbrev pub EverySince : {H : Type 0} → CrashModel H → (Image → Type 0) → H → H → Type 0
+EverySince model P old new = (image : Image) → IsTrue (model.is_honest old)
+    → model.left_since new (model.moment old) image → P image
+
+-- What reads is durable: a crash leaves just that.
+abbrev pub IsDurable : {H : Type 0} → CrashModel H → (H → Image) → H → Type 0
+IsDurable model contents host = (image : Image) → IsTrue (model.is_honest host) → model.may_leave host image
+    → image ≡ contents host
+
+-- What one file holds is durable.
+abbrev pub IsDurableFile : {H : Type 0} → CrashModel H → (H → Image) → ℕ → H → Type 0
+IsDurableFile model contents number host = (image : Image) → IsTrue (model.is_honest host)
+    → model.may_leave host image → image.file number ≡ (contents host).file number
+
+-- The laws of every honest host.
+
+-- What reads is one of the images.
+abbrev pub LeavesContents : {H : Type 0} → CrashModel H → (H → Image) → Type 0
+LeavesContents {H} model contents = (host : H) → IsTrue (model.is_honest host) → model.may_leave host (contents host)
+
+-- What was said stays.
+abbrev pub LeavesSaid : {H : Type 0} → CrashModel H → (H → Image) → Type 0
+LeavesSaid {H} model contents = (host : H) (image : Image) → IsTrue (model.is_honest host) → model.may_leave host image
+    → image.said ≡ (contents host).said
+
+-- An image of now is one since each moment up to now.
+abbrev pub CountsNow : {H : Type 0} → CrashModel H → Type 0
+CountsNow {H} model = (host : H) (moment : ℕ) (image : Image) → IsTrue (model.is_honest host)
+    → moment ≤ model.moment host → model.may_leave host image → model.left_since host moment image
+
+-- An image since now is one of now.
+abbrev pub CountsOnlyNow : {H : Type 0} → CrashModel H → Type 0
+CountsOnlyNow {H} model = (host : H) (image : Image) → IsTrue (model.is_honest host)
+    → model.left_since host (model.moment host) image → model.may_leave host image

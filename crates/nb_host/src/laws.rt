@@ -1,0 +1,49 @@
+//! Laws of crashes, for every host, by which the crates above compose their calls, and the limits of a host's
+//! calls. Each is a function that does nothing: its contract is the law.
+
+ghost use Rattle.std.specs.Prelude.{◌≡◌, ℕ, ◌+◌, ◌^◌, List, ◌++◌, Contains, IsTrue};
+ghost use Rattle.nb_host.specs.Crashes.{ChangesOnly, EverySince, AgreesOutside, IsDurable, IsDurableFile};
+ghost use Rattle.nb_host.specs.Image.{Image};
+
+use crate::host::{Host, LAST_FILE, PLACE_LIMIT};
+
+/// A stretch of calls that changes only some files changes only more of them.
+pub fn law_changes_more<H: Host>()
+    ensures { (fewer more : List ℕ) (old new : H) → ((file : ℕ) → Contains fewer file → Contains more file)
+        → ChangesOnly H.crashes fewer old new → ChangesOnly H.crashes more old new }
+{}
+
+/// Two stretches, one right after the other, change together only the files of both.
+pub fn law_changes_both<H: Host>()
+    ensures { (first second : List ℕ) (old middle new : H) → ChangesOnly H.crashes first old middle
+        → ChangesOnly H.crashes second middle new → ChangesOnly H.crashes (first ++ second) old new }
+{}
+
+/// After a stretch that changes only some files, every image since its start agrees in every other file, and
+/// in what was said, with an image at its start.
+pub fn law_every_image<H: Host>()
+    ensures { (files : List ℕ) (old new : H) → ChangesOnly H.crashes files old new
+        → EverySince H.crashes (λ image. (start : Image) × H.crashes.may_leave old start
+        × AgreesOutside files start image) old new }
+{}
+
+/// What is durable in one file stays so through calls that change only others and leave what it holds.
+pub fn law_durable_file<H: Host>()
+    ensures each { (file : ℕ) (host : H) → IsDurable H.crashes H.contents host
+        → IsDurableFile H.crashes H.contents file host }
+    ensures stays { (files : List ℕ) (file : ℕ) (old new : H) → (Contains files file → ⊥)
+        → IsDurableFile H.crashes H.contents file old → ChangesOnly H.crashes files old new
+        → (H.contents new).file file ≡ (H.contents old).file file
+        → IsDurableFile H.crashes H.contents file new }
+{}
+
+/// What an honest host's files hold is one of the images that a crash may leave.
+pub fn law_contents_are_left<H: Host>()
+    ensures { (host : H) → IsTrue (H.crashes.is_honest host) → H.crashes.may_leave host (H.contents host) }
+{}
+
+/// The greatest number of a file, and what the end of a write or a read in a file is below, in bytes.
+pub fn law_limits()
+    ensures last_file { LAST_FILE ≡ 16 + 2 ^ 40 }
+    ensures place { PLACE_LIMIT ≡ 2 ^ 62 }
+{}
