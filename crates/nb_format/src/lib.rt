@@ -3,8 +3,8 @@
 //! `snap_reader` accepts exactly a snapshot or names its first bad field (`specs/Snapshot` and
 //! `SnapshotRefusal`), `snap_writer` fills a file that is finished only when it is right, and `finished`
 //! looks whether one is. `params_reader` accepts exactly a parameter text or names its first fault
-//! (`specs/ParamsText`). `text` is a line in place, and `said`, `parameter` and `refusals_said` make the lines
-//! of `specs/Lines`.
+//! (`specs/ParamsText`). `text` is a line in place, and `said`, `parameter` and `refusals_said` make the
+//! lines of `specs/Lines`.
 #![tactic(auto)]
 
 mod bytes;
@@ -31,7 +31,7 @@ pub use finished::snap_finished;
 pub use laws::{law_one_snapshot, law_snapshot_is_finished, law_snapshot_refusal};
 pub use parameter::param_line;
 pub use params_error::ParamsError;
-pub use params_laws::{law_canonical_params, law_each_parameter_once};
+pub use params_laws::{law_canonical_params, law_each_parameter_once, law_params_in_range};
 pub use params_reader::{MOST_TEXT, read_params};
 pub use refusals_said::{
     already_text, damaged_text, device_text, heavy_text, leg_text, limit_text, many_text,

@@ -16,3 +16,8 @@ pub fn law_each_parameter_once()
         → (which : ℕ) → which < length parameters
         → settings_of which (lines_of text) ≡ slice_index (values_of params) which ∷ [] }
 {}
+
+/// The parameters of a text are in range.
+pub fn law_params_in_range()
+    ensures { (text : List ℕ) (params : Params) → params_of text ≡ Ok params → AreInRange params }
+{}

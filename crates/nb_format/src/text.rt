@@ -36,7 +36,7 @@ impl Text {
     /// The bytes.
     pub fn bytes(&self) -> &[u8]
         ensures value { result.now ≡ self.now }
-        ensures short { length result.now ≤ LONGEST_TEXT }
+        ensures short { length result.now ≤ 128 }
     {
         &self.place[..self.end]
     }
