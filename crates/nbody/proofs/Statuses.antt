@@ -8,7 +8,6 @@ use Rattle.nb_host.specs.Image.{Image, Says, SaysPart}
 use Rattle.nb_host.proofs.Steps.{becomes_itself}
 use Rattle.nb_format.specs.Lines.{once_line}
 use Rattle.nb_format.specs.Snapshot.{IsSnapshot}
-use Rattle.nbody.specs.declared.status.TheConstants.{DONE, WORDS}
 use Rattle.nbody.specs.declared.refusal.Refusal.{Refusal}
 use Rattle.nbody.specs.declared.refusal.Refusal.TheVariants as refusal
 use Rattle.nbody.specs.Words.{IsOnce}
@@ -65,8 +64,8 @@ untouched_run (inr some) cause = absurd (no_cause some.2 some.3 cause)
 pub finished_no_cause : {words : List (List ℕ)} {old now : Image} {why : Refusal} → HasFinished words old now → HasCause words old.file why → ⊥
 finished_no_cause done cause = no_cause done.2 done.3 cause
 
-pub finished_where : {words : List (List ℕ)} {old now : Image} {status : ℕ} → HasFinished words old now → status ≢ DONE
-    → ComesWhere status DONE (HasCauseOf words old.file status)
+pub finished_where : {words : List (List ℕ)} {old now : Image} {status : ℕ} → HasFinished words old now → status ≢ 0
+    → ComesWhere status 0 (HasCauseOf words old.file status)
 finished_where done other = record { only = λ is. absurd (other (sym is)); always = λ holds. absurd (finished_no_cause done holds.1) }
 
 cause_of-status : {words : List (List ℕ)} {files : ℕ → List ℕ} {why : Refusal} {status result : ℕ} → (HasCause words files why ⊎ IsFree why)
@@ -173,11 +172,11 @@ status_in refusal.NoMemory result (inl is) = (8, omega arith, sym is)
 status_in why result (inr (inl is)) = (7, omega arith, sym is)
 status_in why result (inr (inr is)) = (8, omega arith, sym is)
 
-steady_words : Yields WORDS → ⊥
+steady_words : Yields 1 → ⊥
 steady_words (inl is) = absurd (omega arith)
 steady_words (inr is) = absurd (omega arith)
 
-words_by_status : (why : Refusal) → status_of why ≡ WORDS → why ≡ refusal.Words
+words_by_status : (why : Refusal) → status_of why ≡ 1 → why ≡ refusal.Words
 words_by_status refusal.Words is = refl
 words_by_status (refusal.Params _) is = absurd (omega arith)
 words_by_status (refusal.Snapshot _) is = absurd (omega arith)
@@ -188,18 +187,18 @@ words_by_status refusal.Device is = absurd (omega arith)
 words_by_status refusal.NoMemory is = absurd (omega arith)
 
 words_only : {NoCommand : Type 0} (why : Refusal) (result : ℕ) → (why ≡ refusal.Words → NoCommand) → (result ≡ status_of why) ⊎ Yields result
-    → result ≡ WORDS → NoCommand
+    → result ≡ 1 → NoCommand
 words_only why result only (inl same) is = only (words_by_status why (sym same ∙ is))
 words_only why result only (inr yields) is = absurd (steady_words (subst Yields is yields))
 
-words_always : (why : Refusal) (result : ℕ) → why ≡ refusal.Words → (result ≡ status_of why) ⊎ Yields result → (result ≡ WORDS) ⊎ Yields result
+words_always : (why : Refusal) (result : ℕ) → why ≡ refusal.Words → (result ≡ status_of why) ⊎ Yields result → (result ≡ 1) ⊎ Yields result
 words_always why result is (inl same) = inl (same ∙ ap status_of is)
 words_always why result is (inr yields) = inr yields
 
 -- The status of the words comes exactly where they are no command, and yields.
 pub words_where : {T NoCommand : Type 0} {why : Refusal} {result : ℕ}
     → ((◌≡◌ {A = Result T Refusal} (Err why) (Err refusal.Words)) ↔ NoCommand) → (result ≡ status_of why) ⊎ Yields result
-    → ComesWhere WORDS result NoCommand
+    → ComesWhere 1 result NoCommand
 words_where {T} {NoCommand} {why} {result} words answer = record {
   only = λ is. words_only why result (λ same. words.0 (ap Err same)) answer is;
   always = λ none. words_always why result (let same = words.1 none in cc) answer;

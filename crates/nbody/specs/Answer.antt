@@ -7,18 +7,18 @@ use Rattle.nb_format.specs.Lines.{once_line}
 use Rattle.nb_format.specs.Snapshot.{IsSnapshot}
 use Rattle.nbody.specs.declared.refusal.Refusal.{Refusal}
 use Rattle.nbody.specs.declared.refusal.Refusal.TheVariants as refusal
-use Rattle.nbody.specs.declared.status.TheConstants.{DONE, WORDS, PARAMS, SNAPSHOT, TOO_HEAVY, TICK_LIMIT, TOO_MANY, DEVICE, MEMORY}
 use Rattle.nbody.specs.Words.{IsOnce, IsNoCommand}
 use Rattle.nbody.specs.Refusal.{status_of, refusal_line}
 use Rattle.nbody.specs.Once.{once_file, Start, ticks_to, list_at, IsReady, IsRefused}
 
--- the statuses of the program
+-- the statuses of the program: 0 where the command was done, and those of the refusals
 abbrev pub statuses : List ℕ
-statuses = DONE ∷ WORDS ∷ PARAMS ∷ SNAPSHOT ∷ TOO_HEAVY ∷ TICK_LIMIT ∷ TOO_MANY ∷ DEVICE ∷ MEMORY ∷ []
+statuses = 0 ∷ 1 ∷ 2 ∷ 3 ∷ 4 ∷ 8 ∷ 10 ∷ 11 ∷ 13 ∷ []
 
--- Each status that has a cause yields to these two: a fault of the device, and want of memory.
+-- The status is one of the two to which each status that has a cause yields: that of a fault of the device, 11, and that of
+-- want of memory, 13.
 abbrev pub Yields : ℕ → Type 0
-Yields status = (status ≡ DEVICE) ⊎ (status ≡ MEMORY)
+Yields status = (status ≡ 11) ⊎ (status ≡ 13)
 
 -- The status comes exactly where its cause holds.
 pub record ComesWhere (expected status : ℕ) (Cause : Type 0) : Type 0 where

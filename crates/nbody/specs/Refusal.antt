@@ -10,17 +10,17 @@ use Rattle.nb_format.specs.SnapshotRefusal.{IsBySnapshot}
 use Rattle.nb_format.specs.Lines.{words_text, params_text, snapshot_text, heavy_text, limit_text, many_text, device_text, memory_text}
 use Rattle.nbody.specs.declared.refusal.Refusal.{Refusal}
 use Rattle.nbody.specs.declared.refusal.Refusal.TheVariants as refusal
-use Rattle.nbody.specs.declared.status.TheConstants.{WORDS, PARAMS, SNAPSHOT, TOO_HEAVY, TICK_LIMIT, TOO_MANY, DEVICE, MEMORY}
 
+-- the exit status
 abbrev pub status_of : Refusal → ℕ
-status_of refusal.Words = WORDS
-status_of (refusal.Params _) = PARAMS
-status_of (refusal.Snapshot _) = SNAPSHOT
-status_of (refusal.TooHeavy _ _) = TOO_HEAVY
-status_of (refusal.TickLimit _) = TICK_LIMIT
-status_of (refusal.TooMany _) = TOO_MANY
-status_of refusal.Device = DEVICE
-status_of refusal.NoMemory = MEMORY
+status_of refusal.Words = 1
+status_of (refusal.Params _) = 2
+status_of (refusal.Snapshot _) = 3
+status_of (refusal.TooHeavy _ _) = 4
+status_of (refusal.TickLimit _) = 8
+status_of (refusal.TooMany _) = 10
+status_of refusal.Device = 11
+status_of refusal.NoMemory = 13
 
 -- the line on Err
 abbrev pub refusal_line : Refusal → List ℕ

@@ -7,7 +7,7 @@
 
 ghost use Rattle.std.specs.Prelude.{◌≡◌, false, IfOk};
 ghost use Rattle.nb_host.specs.Faults.{CountsFault};
-ghost use Rattle.nbody.specs.Folder.{untold};
+ghost use Rattle.nbody.specs.Folder.{untold, unknown, never_honest};
 
 use crate::folder::Folder;
 use crate::open_files::FileError;
@@ -70,6 +70,18 @@ where
     ghost faults = { λ host. host.faults };
 
     ghost refused_says = { λ _ _. 0 };
+
+    ghost crashes = { unknown };
+
+    ghost tells_if_honest = { λ _ honest. honest };
+
+    ghost leaves_contents = { λ _ honest. never_honest honest };
+
+    ghost leaves_said = { λ _ _ honest _. never_honest honest };
+
+    ghost counts_now = { λ _ _ _ honest _ _. never_honest honest };
+
+    ghost counts_only_now = { λ _ _ honest _. never_honest honest };
 
     fn len(&mut self, file: u64) -> Result<u64, HostError> {
         let answer = self.folder.len(file);

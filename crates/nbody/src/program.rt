@@ -15,7 +15,7 @@ ghost use Rattle.nbody.specs.Answer.{statuses, Yields, ComesWhere, HasCause, Has
 
 use crate::once::once;
 use crate::refusal::Refusal;
-use crate::status::{DEVICE, DONE, WORDS};
+use crate::status::DONE;
 use crate::words::once_target;
 use nb_format::once_line;
 use nb_host::{Channel, Host};
@@ -27,17 +27,17 @@ pub fn nbody<H: Host>(alloc: Global, words: &[&str], host: &mut H) -> u8
     ensures status { Contains statuses result }
 
     // When each status comes.
-    ensures words { ComesWhere WORDS result (IsNoCommand (map (λ w. w.now) words.now)) }
-    ensures causes { (status : ℕ) → IsTrue (H.tells host.old) → status ≢ DONE → (Yields status → ⊥)
+    ensures words { ComesWhere 1 result (IsNoCommand (map (λ w. w.now) words.now)) }
+    ensures causes { (status : ℕ) → IsTrue (H.tells host.old) → status ≢ 0 → (Yields status → ⊥)
         → ComesWhere status result
         (HasCauseOf (map (λ w. w.now) words.now) (H.contents host.old).file status) }
-    ensures device { result ≡ DEVICE → Rose (H.faults host.old) (H.faults host.new) }
+    ensures device { result ≡ 11 → Rose (H.faults host.old) (H.faults host.new) }
     ensures complete { (target : ℕ) (start : Start) → IsOnce (map (λ w. w.now) words.now) target
         → IsTrue (H.tells host.old) → IsReady (H.contents host.old).file target start
-        → (result ≡ DONE) ⊎ Yields result }
+        → (result ≡ 0) ⊎ Yields result }
 
     // What `once` does, and what a refusal leaves.
-    ensures done { result ≡ DONE → IsTrue (H.tells host.old)
+    ensures done { result ≡ 0 → IsTrue (H.tells host.old)
         → (target : ℕ) × (start : Start) × IsOnce (map (λ w. w.now) words.now) target
         × IsReady (H.contents host.old).file target start
         × IsDone target start (H.contents host.old) (H.contents host.new) }
@@ -59,13 +59,13 @@ pub fn nbody<H: Host>(alloc: Global, words: &[&str], host: &mut H) -> u8
     ensures silent { (why : Refusal) → IsTrue (H.tells host.old)
         → HasCause (map (λ w. w.now) words.now) (H.contents host.old).file why
         → (H.contents host.new).said channels.Out ≡ (H.contents host.old).said channels.Out }
-    ensures err { IsTrue (H.tells host.old) → result ≢ DONE
+    ensures err { IsTrue (H.tells host.old) → result ≢ 0
         → (Rose (H.refused_says host.old channels.Err) (H.refused_says host.new channels.Err) → ⊥)
         → (why : Refusal)
         × IsAnswer (map (λ w. w.now) words.now) (H.contents host.old).file result why
         × ((H.contents host.new).said channels.Err
         ≡ (H.contents host.old).said channels.Err ++ refusal_line why) }
-    ensures err_part { IsTrue (H.tells host.old) → result ≢ DONE
+    ensures err_part { IsTrue (H.tells host.old) → result ≢ 0
         → (text : List ℕ) × IsLineFor (map (λ w. w.now) words.now) (H.contents host.old).file result text
         × SaidFrontOf text
         ((H.contents host.old).said channels.Err) ((H.contents host.new).said channels.Err) }
@@ -138,7 +138,7 @@ fn say_refusal<H: Host>(host: &mut H, refusal: Refusal) -> u8
     requires { IsSayable refusal }
     ensures status { (result ≡ status_of refusal) ⊎ Yields result }
     ensures kept { Yields (status_of refusal) → result ≡ status_of refusal }
-    ensures device { result ≡ DEVICE
+    ensures device { result ≡ 11
         → (refusal ≡ Refusal.Device) ⊎ Rose (H.faults host.old) (H.faults host.new) }
     ensures said { IsTrue (H.tells host.old)
         → (Rose (H.refused_says host.old channels.Err) (H.refused_says host.new channels.Err) → ⊥)

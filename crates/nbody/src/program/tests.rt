@@ -1,9 +1,6 @@
 //! What the program does over a host in memory: its bytes, its lines and its statuses.
 
 use super::*;
-use crate::status::{
-    DEVICE, DONE, PARAMS as BAD_PARAMS, SNAPSHOT, TICK_LIMIT, TOO_HEAVY, TOO_MANY, WORDS,
-};
 use nb_host::MemoryHost;
 use std::alloc::AllocError;
 use std::process::Abort;
@@ -102,7 +99,7 @@ fn check_done(
     want: &[u8],
 ) -> Result<(), Fail> {
     let mut host = host_of(alloc, init)?;
-    assert_eq!(rt; run_words(alloc, &["once", target], &mut host), DONE);
+    assert_eq!(rt; run_words(alloc, &["once", target], &mut host), 0);
     assert_eq!(rt; host.said(Channel::Out), line);
     assert_eq!(rt; host.said(Channel::Err), b"".as_slice());
     assert_eq!(rt; host.bytes(ONCE), want);
@@ -141,6 +138,11 @@ fn no_bodies(rt: HostRuntime) -> Result<(), Fail> {
 fn one_body(rt: HostRuntime) -> Result<(), Fail> {
     let line = b"once time 1 ticks 1 out 0\n";
     check_done(&rt, rt.alloc(), &ONE_BODY, "1", line, &ONE_BODY_LATER)?;
+    // A sync, two calls for the parameters, three for the snapshot, a cut and a sync, five to begin the
+    // file of `once`, one for its body, three to close it, and its line: no call more, and none less.
+    let mut host = host_of(rt.alloc(), &ONE_BODY)?;
+    assert_eq!(rt; run_words(rt.alloc(), &["once", "1"], &mut host), 0);
+    assert_eq!(rt; host.calls(), 18);
     let line = b"once time 0 ticks 0 out 0\n";
     check_done(&rt, rt.alloc(), &ONE_BODY, "0", line, &ONE_BODY)?;
     let line = b"once time 0 ticks 1 out 0\n";
@@ -216,7 +218,7 @@ fn words(rt: HostRuntime) -> Result<(), Fail> {
     let line = b"nbody: the words are not a command\n";
     for words in table {
         let mut host = host_of(rt.alloc(), &ONE_BODY)?;
-        check_refused(&rt, rt.alloc(), &mut host, words, WORDS, line)?;
+        check_refused(&rt, rt.alloc(), &mut host, words, 1, line)?;
     }
     // leading zeros, up to 20 digits
     let line = b"once time 1 ticks 1 out 0\n";
@@ -267,7 +269,7 @@ fn no_snapshot(rt: HostRuntime) -> Result<(), Fail> {
         (&too_fast, b"nbody: snapshot: speed at body 0\n"),
     ];
     for (init, line) in table {
-        check_snapshot(&rt, rt.alloc(), init, "0", SNAPSHOT, line)?;
+        check_snapshot(&rt, rt.alloc(), init, "0", 3, line)?;
     }
     let table = [
         (0, 0, b"nbody: snapshot: unfinished\n".as_slice()),
@@ -282,7 +284,7 @@ fn no_snapshot(rt: HostRuntime) -> Result<(), Fail> {
         assert!(rt; place < 96);
         let mut init = ONE_BODY;
         init[place] = byte;
-        check_snapshot(&rt, rt.alloc(), &init, "0", SNAPSHOT, line)?;
+        check_snapshot(&rt, rt.alloc(), &init, "0", 3, line)?;
     }
     Ok(())
 }
@@ -291,7 +293,7 @@ fn no_snapshot(rt: HostRuntime) -> Result<(), Fail> {
 fn check_params(rt: &impl Abort, alloc: Global, text: &[u8], line: &[u8]) -> Result<(), Fail> {
     let mut host = host_of(alloc, &ONE_BODY)?;
     host.with_file(PARAMS, text)?;
-    check_refused(rt, alloc, &mut host, &["once", "1"], BAD_PARAMS, line)
+    check_refused(rt, alloc, &mut host, &["once", "1"], 2, line)
 }
 
 #[test]
@@ -329,7 +331,7 @@ fn parameters_with_comments(rt: HostRuntime) -> Result<(), Fail> {
         every = 100\r\nleaf = 8 \r\nsoft = 1";
     let mut host = host_of(rt.alloc(), &ONE_BODY)?;
     host.with_file(PARAMS, text)?;
-    assert_eq!(rt; run_words(rt.alloc(), &["once", "1"], &mut host), DONE);
+    assert_eq!(rt; run_words(rt.alloc(), &["once", "1"], &mut host), 0);
     assert_eq!(rt; host.bytes(ONCE), ONE_BODY_LATER.as_slice());
     assert_eq!(rt; host.bytes(PARAMS), text.as_slice());
     Ok(())
@@ -351,7 +353,7 @@ fn too_heavy(rt: HostRuntime) -> Result<(), Fail> {
         rt.alloc(),
         &mut host,
         &["once", "1099511627777"],
-        TOO_HEAVY,
+        4,
         b"nbody: grav 268435456 times mass 4294967296 is not below 2^60\n",
     )?;
 
@@ -362,7 +364,7 @@ fn too_heavy(rt: HostRuntime) -> Result<(), Fail> {
         PARAMS,
         b"grav = 1152921504606846975\ntheta_num = 1\ntheta_den = 2\nsoft = 1\nleaf = 8\nevery = 1\n",
     )?;
-    assert_eq!(rt; run_words(rt.alloc(), &["once", "0"], &mut host), DONE);
+    assert_eq!(rt; run_words(rt.alloc(), &["once", "0"], &mut host), 0);
     assert_eq!(rt; host.bytes(ONCE), light.as_slice());
     Ok(())
 }
@@ -388,7 +390,7 @@ fn too_many_ticks(rt: HostRuntime) -> Result<(), Fail> {
     ];
     for (time, target, line) in table {
         let init = header(rt.alloc(), 0, time)?;
-        check_snapshot(&rt, rt.alloc(), &init, target, TICK_LIMIT, line)?;
+        check_snapshot(&rt, rt.alloc(), &init, target, 8, line)?;
     }
     Ok(())
 }
@@ -407,20 +409,20 @@ fn many_bodies(rt: HostRuntime) -> Result<(), Fail> {
     // too heavy too, and too many ticks, which are looked for after it
     let mut most = crowd(rt.alloc(), 4097)?;
     let line = b"nbody: 4097 bodies are more than 4096\n";
-    check_snapshot(&rt, rt.alloc(), &most, "1099511627777", TOO_MANY, line)?;
+    check_snapshot(&rt, rt.alloc(), &most, "1099511627777", 10, line)?;
 
     // a file of too many bodies whose last one is none is no snapshot
     let len = most.len();
     assert!(rt; len > 52);
     most[len - 52] = 2;
     let line = b"nbody: snapshot: flag at body 4096\n";
-    check_snapshot(&rt, rt.alloc(), &most, "0", SNAPSHOT, line)?;
+    check_snapshot(&rt, rt.alloc(), &most, "0", 3, line)?;
 
     // and parameters that are none are looked for before it
     let mut host = host_of(rt.alloc(), &most)?;
     host.with_file(PARAMS, b"soft = 0")?;
     let line = b"nbody: params: line 1 is out of range\n";
-    check_refused(&rt, rt.alloc(), &mut host, &["once", "0"], BAD_PARAMS, line)?;
+    check_refused(&rt, rt.alloc(), &mut host, &["once", "0"], 2, line)?;
 
     let most = crowd(rt.alloc(), 4096)?;
     let mut host = host_of(rt.alloc(), &most)?;
@@ -428,7 +430,7 @@ fn many_bodies(rt: HostRuntime) -> Result<(), Fail> {
         PARAMS,
         b"grav = 1\ntheta_num = 1\ntheta_den = 2\nsoft = 1\nleaf = 8\nevery = 100\n",
     )?;
-    assert_eq!(rt; run_words(rt.alloc(), &["once", "0"], &mut host), DONE);
+    assert_eq!(rt; run_words(rt.alloc(), &["once", "0"], &mut host), 0);
     assert_eq!(rt; host.bytes(ONCE), most.as_slice());
     Ok(())
 }
@@ -437,14 +439,14 @@ fn many_bodies(rt: HostRuntime) -> Result<(), Fail> {
 #[test]
 fn a_fault(rt: HostRuntime) -> Result<(), Fail> {
     let mut host = host_of(rt.alloc(), &ONE_BODY)?;
-    assert_eq!(rt; run_words(rt.alloc(), &["once", "1"], &mut host), DONE);
+    assert_eq!(rt; run_words(rt.alloc(), &["once", "1"], &mut host), 0);
     let last = host.calls();
     for call in 1..=last {
         let mut host = host_of(rt.alloc(), &ONE_BODY)?;
         host.fail_at(&[call])?;
         assert_eq!(rt;
             run_words(rt.alloc(), &["once", "1"], &mut host),
-            DEVICE,
+            11,
             "call {call}"
         );
         assert_eq!(rt; host.faults(), 1);
@@ -471,7 +473,7 @@ fn two_faults(rt: HostRuntime) -> Result<(), Fail> {
         assert!(rt; call < 5);
         let mut host = host_of(rt.alloc(), &ONE_BODY)?;
         host.fail_at(&[call, call + 1])?;
-        assert_eq!(rt; run_words(rt.alloc(), &["once", "1"], &mut host), DEVICE);
+        assert_eq!(rt; run_words(rt.alloc(), &["once", "1"], &mut host), 11);
         assert_eq!(rt; host.faults(), 2);
         assert_eq!(rt; host.said(Channel::Err), b"nbody: a de".as_slice());
         assert_eq!(rt; host.calls(), call + 1);
@@ -484,7 +486,7 @@ fn two_faults(rt: HostRuntime) -> Result<(), Fail> {
 fn a_refusal_unsaid(rt: HostRuntime) -> Result<(), Fail> {
     let mut host = host_of(rt.alloc(), &ONE_BODY)?;
     host.fail_at(&[1])?;
-    assert_eq!(rt; run_words(rt.alloc(), &["again"], &mut host), DEVICE);
+    assert_eq!(rt; run_words(rt.alloc(), &["again"], &mut host), 11);
     assert_eq!(rt; host.said(Channel::Err), b"nbody: the words ".as_slice());
     assert_eq!(rt; host.calls(), 1);
 
@@ -492,7 +494,7 @@ fn a_refusal_unsaid(rt: HostRuntime) -> Result<(), Fail> {
     let mut host = host_of(rt.alloc(), &ONE_BODY)?;
     host.with_file(PARAMS, b"#")?;
     host.fail_at(&[4])?;
-    assert_eq!(rt; run_words(rt.alloc(), &["once", "1"], &mut host), DEVICE);
+    assert_eq!(rt; run_words(rt.alloc(), &["once", "1"], &mut host), 11);
     assert_eq!(rt; host.said(Channel::Err), b"nbody: params: ".as_slice());
     assert_eq!(rt; host.calls(), 4);
     Ok(())
