@@ -1,0 +1,28 @@
+use Rattle.std.proofs.Common.{◌≡◌, ◌∙◌, ◌-◌, length, arith, sym}
+use Rattle.nb_cache.specs.View.{names_of}
+use Rattle.nb_cache.proofs.Forgetting.{forgets_none, forgets_next, forgets_there, kept_all}
+use Rattle.nb_cache.proofs.cache.Cache.forget_file.Goals as goal
+
+pub loop-init : goal.loop-init
+loop-init c = (c.len-resident.ensures.count, forgets_none c.args.file c.args.self.now c.len-resident.ensures.sound)
+
+pub pass-requires : goal.pass-requires
+pass-requires c =
+    forgets_there c.args.file c.loop.counter c.args.self.now c.loop.self c.in-Some.name c.loop.invariant.1
+    (omega (arith, c.loop-test.true, c.loop.invariant.0)) (sym c.last.ensures ∙ c.in-Some.is)
+
+pub loop-preserved : goal.loop-preserved
+loop-preserved c = (
+  c.loop.invariant.0,
+  forgets_next c.args.file c.loop.counter c.args.self.now c.loop.self c.in-Some.name c.loop.invariant.1
+      (omega (arith, c.loop-test.true, c.loop.invariant.0)) (sym c.last.ensures ∙ c.in-Some.is) c.pass.new.self
+      c.pass.ensures.gone c.pass.ensures.moved c.pass.ensures.held c.pass.ensures.pages c.pass.ensures.unwritten
+      c.pass.ensures.sound,
+)
+
+pub returns-clause-resident : goal.returns-clause-resident
+returns-clause-resident c =
+    let none : length (names_of c.args.self.now) - c.loop.counter ≡ 0 =
+    omega (arith, c.loop-test.false, c.loop.invariant.0) in
+    c.loop.invariant.1.names
+    ∙ kept_all c.args.file (length (names_of c.args.self.now) - c.loop.counter) (names_of c.args.self.now) none

@@ -1,0 +1,10 @@
+use Rattle.std.proofs.Common.{◌≡◌, inl, inr, Contains, false, subst, List, ℕ}
+use Rattle.nb_cache.specs.View.{CacheValue}
+use Rattle.nb_cache.proofs.cache.Cache.keep.Goals as goal
+
+pub returns-clause-held : goal.returns-clause-held
+returns-clause-held c = λ h has. elim (c.in_ok-place.ensures.held h has) [
+  | inl one ↦ inl (subst (λ (bytes : List ℕ). h ≡ record { name = c.args.name; bytes = bytes; waiting = false })
+      c.fill.ensures one)
+  | inr one ↦ inr (subst (λ (v : CacheValue). Contains v.held h) c.spare_frame.ensures.same one.0, one.1)
+]
