@@ -347,25 +347,30 @@ pub follows_event : {H : Type 0} (events : H → List Event) (old new : H) (even
     → (start : Image) × IsCrashImage (disk_after (events old)) start × step start image)
     → IsStep event (events old) step
     → ImagesFollow (crash_model_by events) old new step
-follows_event events old new event step recorded now within = record {
-  honest = refl;
-  follows = λ _. record {
-    later = rw recorded (omega arith);
-    now = λ image is.
-        now image (subst (λ (all : List Event). IsCrashImage (disk_after all) image) recorded is);
-    since = λ moment image before is.
-        elim (subst (λ (all : List Event). IsImageSince all moment image) recorded is) [
-          | inl last ↦ inr (now image last)
-          | inr earlier ↦
-              elim earlier.1 [
-                | inl inside ↦ inr (within inside.0 image inside.1)
-                | inr old_image ↦ inl old_image
-              ]
-        ];
-    keeps = λ moment image before is.
-        subst (λ (all : List Event). IsImageSince all moment image) (sym recorded) (inr (before, inr is));
-  };
-}
+follows_event events old new event step recorded now within =
+    let here : (moment : ℕ) (image : Image) → IsImageSince (event ∷ events old) moment image
+    → IsImageSince (events new) moment image = λ moment image is.
+    subst (λ (all : List Event). IsImageSince all moment image) (sym recorded) is
+    in
+    record {
+      honest = refl;
+      follows = λ _. record {
+        later = rw recorded (omega arith);
+        now = λ image is.
+            now image (subst (λ (all : List Event). IsCrashImage (disk_after all) image) recorded is);
+        since = λ moment image before is.
+            elim (subst (λ (all : List Event). IsImageSince all moment image) recorded is) [
+              | inl last ↦ inr (λ past up. here past image (inl last), now image last)
+              | inr earlier ↦
+                  elim earlier.1 [
+                    | inl inside ↦
+                        inr (λ past up. here past image (inr (up, inl inside)), within inside.0 image inside.1)
+                    | inr old_image ↦ inl old_image
+                  ]
+            ];
+        keeps = λ moment image before is. here moment image (inr (before, inr is));
+      };
+    }
 
 -- a call that left no trace
 pub follows_nothing : {H : Type 0} (events : H → List Event) (old new : H) (step : Image → Image → Type 0)

@@ -1,8 +1,8 @@
 -- How calls compose into stretches of calls, by what they do to the images that a crash may leave.
-use Rattle.std.proofs.Common.{◌≡◌, ℕ, inl, inr, IsTrue, List, [], ◌∷◌, Contains, ◌++◌, refl, sym, ◌∙◌, ap, subst, arith}
+use Rattle.std.proofs.Common.{◌≡◌, ℕ, ◌⊎◌, inl, inr, IsTrue, List, [], ◌∷◌, Contains, ◌++◌, refl, sym, ◌∙◌, ap, subst, arith}
 use Rattle.std.proofs.lemmas.List.Elements.{Contains-append_left, Contains-append_right}
 use Rattle.nb_host.specs.Image.{Image, FileBecomes}
-use Rattle.nb_host.specs.Crashes.{CrashModel, ImagesFollow, Stays, AgreesOutside, ChangesOnly, EverySince, IsDurable, IsDurableFile, CountsOnlyNow}
+use Rattle.nb_host.specs.Crashes.{CrashModel, ImagesFollow, IsStretch, Stays, AgreesOutside, ChangesOnly, EverySince, IsDurable, IsDurableFile, LeavesContents, CountsOnlyNow, CountsEarlier}
 
 -- no call yet
 pub begins : {H : Type 0} (model : CrashModel H) (host : H) → ImagesFollow model host host Stays
@@ -27,11 +27,18 @@ weaken model old new S T run more = record {
     since = λ moment image before is.
         elim (by.since moment image before is) [
           | inl earlier ↦ inl earlier
-          | inr first ↦ inr (first.0, first.1, more first.0 image first.2)
+          | inr left ↦
+              let first = left.1 in
+              inr (left.0, (first.0, first.1, more first.0 image first.2))
         ];
     keeps = by.keeps;
   };
 }
+
+-- a stretch of which no more is said
+pub is_stretch : {H : Type 0} (model : CrashModel H) (old new : H) (S : Image → Image → Type 0)
+    → ImagesFollow model old new S → IsStretch model old new
+is_stretch model old new S run = weaken model old new S (λ _ _. Unit {0}) run (λ start image step. tt)
 
 -- A stretch after another. What joins the two steps may use what is known of the images in the middle.
 pub goes_on : {H : Type 0} (model : CrashModel H) (old middle new : H) (S T U : Image → Image → Type 0)
@@ -57,14 +64,19 @@ goes_on model old middle new S T U first second alone both = record {
               | inl earlier ↦
                   elim (one.since moment image before earlier) [
                     | inl old ↦ inl old
-                    | inr start ↦ inr (start.0, start.1, alone start.0 image start.2)
+                    | inr left ↦
+                        let start = left.1 in
+                        inr (
+                          λ past up. two.keeps past image (omega (arith, up, one.later)) (left.0 past up),
+                          (start.0, start.1, alone start.0 image start.2),
+                        )
                   ]
-              | inr between ↦
+              | inr left ↦
+                  let between = left.1 in
                   let start = one.now between.0 between.1 in
                   inr (
-                    start.0,
-                    start.1,
-                    both start.0 between.0 image honest_middle start.2 between.1 between.2,
+                    λ past up. left.0 past (omega (arith, up, one.later)),
+                    (start.0, start.1, both start.0 between.0 image honest_middle start.2 between.1 between.2),
                   )
             ];
         keeps = λ moment image before is.
@@ -105,7 +117,47 @@ pub every_since : {H : Type 0} (model : CrashModel H) (old new : H) (S : Image �
 every_since model old new S P only run at_start follows = λ image honest since.
     elim ((run.follows honest).since (model.moment old) image (omega arith) since) [
       | inl old_image ↦ at_start image honest (only old image honest old_image)
-      | inr first ↦ follows first.0 image honest first.1 first.2
+      | inr left ↦ let first = left.1 in follows first.0 image honest first.1 first.2
+    ]
+
+-- Two stretches, one right after the other: an image since the start of both is one of the first or one of the second.
+pub since_either : {H : Type 0} (model : CrashModel H) (old middle new : H) (S T : Image → Image → Type 0)
+    → ImagesFollow model old middle S → ImagesFollow model middle new T → (image : Image)
+    → IsTrue (model.is_honest old) → model.left_since new (model.moment old) image
+    → model.left_since middle (model.moment old) image ⊎ model.left_since new (model.moment middle) image
+since_either model old middle new S T first second image honest since =
+    let one = first.follows honest in
+    let two = second.follows (subst IsTrue (sym first.honest) honest) in
+    elim (two.since (model.moment old) image one.later since) [
+      | inl before ↦ inl before
+      | inr left ↦ inr (left.0 (model.moment middle) (omega arith))
+    ]
+
+-- Each image of the one or the other is one since the start of both.
+pub either_since : {H : Type 0} (model : CrashModel H) (old middle new : H) (S T : Image → Image → Type 0)
+    → CountsEarlier model → ImagesFollow model old middle S → ImagesFollow model middle new T → (image : Image)
+    → IsTrue (model.is_honest old)
+    → model.left_since middle (model.moment old) image ⊎ model.left_since new (model.moment middle) image
+    → model.left_since new (model.moment old) image
+either_since model old middle new S T counts first second image honest either =
+    let one = first.follows honest in
+    let honest_middle = subst IsTrue (sym first.honest) honest in
+    let two = second.follows honest_middle in
+    elim either [
+      | inl before ↦ two.keeps (model.moment old) image one.later before
+      | inr after ↦
+          counts new (model.moment old) (model.moment middle) image (subst IsTrue (sym second.honest) honest_middle)
+          one.later after
+    ]
+
+-- what holds of every image of both stretches, each by itself, holds of every image since the start of the first
+pub every_both : {H : Type 0} (model : CrashModel H) (old middle new : H) (S T : Image → Image → Type 0)
+    (P : Image → Type 0) → ImagesFollow model old middle S → ImagesFollow model middle new T
+    → EverySince model P old middle → EverySince model P middle new → EverySince model P old new
+every_both model old middle new S T P first second before after = λ image honest since.
+    elim (since_either model old middle new S T first second image honest since) [
+      | inl is ↦ before image honest is
+      | inr is ↦ after image (subst IsTrue (sym first.honest) honest) is
     ]
 
 -- Stretches that change only some files.
@@ -159,15 +211,26 @@ changes_every model files old new only run =
     (λ image. (start : Image) × model.may_leave old start × AgreesOutside files start image) only run
     (λ image _ is. (image, is, agrees_itself files image)) (λ start image _ is agrees. (start, is, agrees))
 
--- What is durable in one file stays so through calls that change only others.
+-- What is durable in one file reads as before after calls that change only others, since it is in every image.
+pub durable_file_holds : {H : Type 0} (model : CrashModel H) (contents : H → Image) (files : List ℕ) (number : ℕ)
+    (old new : H) → LeavesContents model contents → (Contains files number → ⊥)
+    → IsDurableFile model contents number old → ChangesOnly model files old new → IsTrue (model.is_honest old)
+    → (contents new).file number ≡ (contents old).file number
+durable_file_holds model contents files number old new leaves spared durable run honest =
+    let is = leaves new (subst IsTrue (sym run.honest) honest) in
+    let start = (run.follows honest).now (contents new) is in
+    start.2.others number spared ∙ durable start.0 honest start.1
+
+-- It stays durable.
 pub durable_file_stays : {H : Type 0} (model : CrashModel H) (contents : H → Image) (files : List ℕ) (number : ℕ)
-    (old new : H) → (Contains files number → ⊥) → IsDurableFile model contents number old
-    → ChangesOnly model files old new → (contents new).file number ≡ (contents old).file number
+    (old new : H) → LeavesContents model contents → (Contains files number → ⊥)
+    → IsDurableFile model contents number old → ChangesOnly model files old new
     → IsDurableFile model contents number new
-durable_file_stays model contents files number old new spared durable run reads = λ image honest is.
+durable_file_stays model contents files number old new leaves spared durable run = λ image honest is.
     let honest_old = subst IsTrue run.honest honest in
     let start = (run.follows honest_old).now image is in
-    start.2.others number spared ∙ durable start.0 honest_old start.1 ∙ sym reads
+    start.2.others number spared ∙ durable start.0 honest_old start.1
+    ∙ sym (durable_file_holds model contents files number old new leaves spared durable run honest_old)
 
 -- What is durable as a whole is so in each file.
 pub durable_each : {H : Type 0} (model : CrashModel H) (contents : H → Image) (number : ℕ) (host : H)

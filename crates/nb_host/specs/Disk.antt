@@ -1,7 +1,7 @@
 -- The disk model of the host in memory: what it keeps of each file, what each call does to that, and which images a
 -- crash may leave. Since the last sync that succeeded, each written range, each part past an old end and each cut-off
--- range of a file is unsynced. A crash may leave any length that the file had since then, or one between, and anything
--- in an unsynced byte. All other bytes are those of the sync.
+-- range of a file is unsynced. A crash may leave any length between the least and the greatest since then, and anything in
+-- an unsynced byte. All other bytes are those of the sync.
 use Rattle.std.specs.Prelude.{◌≡◌, ℕ, ◌+◌, ◌<◌, ◌≤◌, min, max, Bool, true, false, ◌&&◌, ◌==◌, nat_le, nat_lt, if◌then◌else◌, ◌⊎◌, List, [], ◌∷◌, ◌++◌, length, take, map, slice_index}
 use Rattle.std.specs.List.{list_any, range_with_len}
 use Rattle.nb_host.specs.Crashes.{CrashModel}
@@ -12,8 +12,8 @@ use Rattle.nb_host.specs.declared.outcome.Outcome.{Outcome}
 use Rattle.nb_host.specs.declared.outcome.Outcome.TheVariants.{Kept, Lost, Filled}
 use Rattle.nb_host.specs.declared.span.Span.{Span}
 
--- One file: its bytes at the last sync that succeeded, its bytes as they read, the least and the greatest length that it
--- had since that sync, and the ranges that are unsynced.
+-- One file: its bytes at the last sync that succeeded, its bytes as they read, the least and the greatest length since that
+-- sync, and the ranges that are unsynced. The end of a write counts as a length also where the write failed.
 pub record DiskFile : Type 0 where
   pub base : List ℕ
   pub reads : List ℕ
@@ -30,7 +30,7 @@ pub record Disk : Type 0 where
 abbrev pub is_unsynced : List Span → ℕ → Bool
 is_unsynced spans place = list_any (λ span. nat_le span.from place && nat_lt place span.end) spans
 
--- A crash may leave these bytes of the file.
+-- A crash may leave these bytes of the file. They may be any numbers, also above 255, which only widens what it may leave.
 pub record IsFileImage (file : DiskFile) (bytes : List ℕ) : Type 0 where
   pub no_shorter : file.least ≤ length bytes
   pub no_longer : length bytes ≤ file.greatest
@@ -118,7 +118,7 @@ abbrev pub disk_after : List Event → Disk
 disk_after [] = record { file = λ _. synced_file []; said = λ _. [] }
 disk_after (event ∷ earlier) = after event (disk_after earlier)
 
--- A call in progress counts as begun: of its bytes it may have got so many done, and no more need be.
+-- A call in progress, with so many of its bytes done. It counts as begun, and any number of its bytes may be done.
 abbrev pub in_progress : ℕ → Event → Event
 in_progress done (Wrote file at bytes _) = Wrote file at bytes done
 in_progress done (Cut file len) = Cut file len
@@ -131,7 +131,8 @@ in_progress done (Crashed outcome) = Crashed outcome
 abbrev pub IsImageWithin : Event → Disk → Image → Type 0
 IsImageWithin event disk image = (done : ℕ) × IsCrashImage (after (in_progress done event) disk) image
 
--- A crash at a moment, or at a later one up to now, may have left this image. A moment is how many calls were recorded.
+-- A crash at a moment, or at a later one up to now, may have left this image. A moment is how many calls were recorded. One
+-- later than now would have the images of now: callers speak of moments up to now.
 abbrev pub IsImageSince : List Event → ℕ → Image → Type 0
 IsImageSince [] moment image = IsCrashImage (disk_after []) image
 IsImageSince (event ∷ earlier) moment image =

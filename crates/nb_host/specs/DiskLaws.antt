@@ -1,4 +1,4 @@
--- What holds of the disk after any calls.
+-- What holds of the disk after any calls. These are proofs: they stand in specs/ because a host's laws cite them.
 use Rattle.std.proofs.Common.{◌≡◌, ℕ, ◌+◌, ◌<◌, ◌≤◌, min, max, Bool, true, false, ◌&&◌, ◌||◌, ◌==◌, nat_le, nat_lt, if◌then◌else◌, ◌⊎◌, inl, inr, List, [], ◌∷◌, length, take, slice_index, refl, ◌∙◌, arith}
 use Rattle.std.proofs.lemmas.Bool.{cases_lt, lt-ltb, le-leb, or_parts}
 use Rattle.std.proofs.lemmas.Grind.{common_steps}
@@ -192,3 +192,17 @@ pub counts_only_now : (events : List Event) (image : Image) → IsImageSince eve
 counts_only_now [] image since = since
 counts_only_now (event ∷ earlier) image (inl now) = now
 counts_only_now (event ∷ earlier) image (inr before) = absurd (omega (arith, before.0))
+
+-- an image since a later moment is one since an earlier one
+pub counts_earlier : (events : List Event) (early late : ℕ) (image : Image) → early ≤ late
+    → IsImageSince events late image → IsImageSince events early image
+counts_earlier [] early late image less since = since
+counts_earlier (event ∷ before) early late image less (inl now) = inl now
+counts_earlier (event ∷ before) early late image less (inr past) =
+    inr (
+      omega (arith, less, past.0),
+      elim past.1 [
+        | inl within ↦ inl within
+        | inr since ↦ inr (counts_earlier before early late image less since)
+      ],
+    )

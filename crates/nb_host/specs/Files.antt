@@ -19,14 +19,6 @@ changed_file bytes (Some changes) = record {
 abbrev pub disk_file_of : StoredFile → DiskFile
 disk_file_of stored = changed_file stored.bytes.items stored.changes
 
--- what was made ready for a crash that fills
-abbrev pub ready_file : List ℕ → Option Changes → List ℕ
-ready_file bytes None = bytes
-ready_file bytes (Some changes) = changes.filled.items
-
-abbrev pub filled_of : StoredFile → List ℕ
-filled_of stored = ready_file stored.bytes.items stored.changes
-
 -- what the one with this number among the stored files is made of, and a file without bytes where none has it
 abbrev pub found : (StoredFile → DiskFile) → List StoredFile → ℕ → DiskFile
 found f [] number = synced_file []
@@ -39,6 +31,17 @@ file_in files number = found disk_file_of files.list.items number
 -- no file changes
 abbrev pub KeepsFiles : Files → Files → Type 0
 KeepsFiles old new = (number : ℕ) → file_in new number ≡ file_in old number
+
+-- What follows is cited by no public clause: a crash that fills makes all files ready before it changes one, and this is
+-- for the proofs of these two steps.
+
+-- what was made ready of a file
+abbrev pub ready_file : List ℕ → Option Changes → List ℕ
+ready_file bytes None = bytes
+ready_file bytes (Some changes) = changes.filled.items
+
+abbrev pub filled_of : StoredFile → List ℕ
+filled_of stored = ready_file stored.bytes.items stored.changes
 
 -- a file once what was made ready is made its bytes
 abbrev pub ready_of : StoredFile → DiskFile

@@ -19,9 +19,9 @@ IsOverwritten at bytes old new = new ≡ overwritten at bytes old
 abbrev pub IsCut : ℕ → List ℕ → List ℕ → Type 0
 IsCut len old new = new ≡ take len old
 
--- A file after a write of so many bytes at this place, perhaps in part. It isn't shorter than before, nor longer than
--- before or than the written range's end. Outside the range, and the gap before it, the bytes are those of before. A
--- write of no bytes does nothing.
+-- A file after a write of so many bytes at this place, perhaps in part. It isn't shorter than before, nor longer than the
+-- longer of before and the written range's end. Outside the range, and the gap before it, the bytes are those of before.
+-- A write of no bytes does nothing.
 pub record IsTorn (at len : ℕ) (old new : List ℕ) : Type 0 where
   pub nothing : len ≡ 0 → new ≡ old
   pub no_shorter : length old ≤ length new

@@ -58,7 +58,7 @@ refused_of host = refused_on host.refusals
 abbrev pub failing_of : MemoryHost → List ℕ
 failing_of host = host.plan.failing.items
 
--- how many host calls were made since those numbers were set, or in all where none ever were
+-- how many host calls were made since those numbers were set or a crash cleared them, and in all where neither ever was
 abbrev pub calls_since_set : MemoryHost → ℕ
 calls_since_set host = host.plan.since
 

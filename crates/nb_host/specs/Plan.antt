@@ -48,8 +48,8 @@ faults_after Passes faults = faults
 faults_after HalfDone faults = next_count faults
 faults_after Nothing faults = next_count faults
 
--- How many of its bytes, so many in all, a call does. One that fails does the first half of them, rounded down.
+-- How many of its bytes, so many in all, a call does. One that is half done does the first half of them, rounded down.
 abbrev pub part_by : Fate → ℕ → ℕ
 part_by Passes len = len
 part_by HalfDone len = len / 2
-part_by Nothing len = len / 2
+part_by Nothing len = 0

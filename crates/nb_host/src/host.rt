@@ -60,7 +60,7 @@ pub enum Channel {
 /// count of faults rose in that call, and the clauses of the call say what it may have left.
 pub trait Host {
     /// Whether the host tells what its files hold and what was said. What a call puts into a file, says or
-    /// reads is known of one that does. One that doesn't may take its contents for any that don't change.
+    /// reads is known of one that does. Of one that doesn't, `contents` may be taken for some constant.
     ghost tells: { Self → Bool };
 
     /// What the files hold, as a read sees it, and what was said.
@@ -76,7 +76,7 @@ pub trait Host {
     /// honest host alone: one that returns what was written, and whose syncs that succeed make it durable.
     ghost crashes: { CrashModel Self };
 
-    ghost use Rattle.nb_host.specs.Crashes.{CrashModel, ImagesFollow, Stays, IsDurable, LeavesContents, LeavesSaid, CountsNow, CountsOnlyNow};
+    ghost use Rattle.nb_host.specs.Crashes.{CrashModel, ImagesFollow, Stays, IsDurable, LeavesContents, LeavesSaid, CountsNow, CountsOnlyNow, CountsEarlier};
     ghost use Rattle.nb_host.specs.Faults.{CountsFault, CountsRefusedSay};
     ghost use Rattle.nb_host.specs.Image.{Image, IsOverwritten, IsCut, IsTorn, IsPartlyCut, FileBecomes, Says, SaysPart, readable};
 
@@ -140,7 +140,7 @@ pub trait Host {
         ensures fault { CountsFault (faults self.old) (faults self.new) result }
         ensures refused { refused_says self.new ≡ refused_says self.old };
 
-    /// Makes all files stable: what they hold now outlasts a crash.
+    /// Makes all files durable: what they hold now outlasts a crash.
     fn sync(&mut self) -> Result<(), HostError>
         ensures same { contents self.new ≡ contents self.old }
         ensures told { tells self.new ≡ tells self.old }
@@ -177,4 +177,7 @@ pub trait Host {
 
     /// What a crash may have left from now on, it may leave now.
     ghost counts_only_now: { CountsOnlyNow crashes };
+
+    /// What a crash may have left from a moment on, it may have left from each earlier one on.
+    ghost counts_earlier: { CountsEarlier crashes };
 }

@@ -1,8 +1,8 @@
 //! Laws of crashes, for every host, by which the crates above compose their calls, and the limits of a host's
 //! calls. Each is a function that does nothing: its contract is the law.
 
-ghost use Rattle.std.specs.Prelude.{◌≡◌, ℕ, ◌+◌, ◌^◌, List, ◌++◌, Contains, IsTrue};
-ghost use Rattle.nb_host.specs.Crashes.{ChangesOnly, EverySince, AgreesOutside, IsDurable, IsDurableFile};
+ghost use Rattle.std.specs.Prelude.{◌≡◌, ◌⊎◌, ◌↔◌, ℕ, ◌+◌, ◌^◌, List, ◌++◌, Contains, IsTrue};
+ghost use Rattle.nb_host.specs.Crashes.{IsStretch, ChangesOnly, EverySince, AgreesOutside, IsDurable, IsDurableFile};
 ghost use Rattle.nb_host.specs.Image.{Image};
 
 use crate::host::{Host, LAST_FILE, PLACE_LIMIT};
@@ -27,14 +27,26 @@ pub fn law_every_image<H: Host>()
         × AgreesOutside files start image) old new }
 {}
 
-/// What is durable in one file stays so through calls that change only others and leave what it holds.
+/// Two stretches, one right after the other: the images since the start of both are those of the first and
+/// those of the second.
+pub fn law_images_of_both<H: Host>()
+    ensures { (old middle new : H) (image : Image) → IsStretch H.crashes old middle
+        → IsStretch H.crashes middle new → IsTrue (H.crashes.is_honest old)
+        → (H.crashes.left_since new (H.crashes.moment old) image
+        ↔ (H.crashes.left_since middle (H.crashes.moment old) image
+        ⊎ H.crashes.left_since new (H.crashes.moment middle) image)) }
+{}
+
+/// What is durable in one file reads as before, and stays durable, through calls that change only others.
 pub fn law_durable_file<H: Host>()
     ensures each { (file : ℕ) (host : H) → IsDurable H.crashes H.contents host
         → IsDurableFile H.crashes H.contents file host }
     ensures stays { (files : List ℕ) (file : ℕ) (old new : H) → (Contains files file → ⊥)
         → IsDurableFile H.crashes H.contents file old → ChangesOnly H.crashes files old new
-        → (H.contents new).file file ≡ (H.contents old).file file
         → IsDurableFile H.crashes H.contents file new }
+    ensures holds { (files : List ℕ) (file : ℕ) (old new : H) → (Contains files file → ⊥)
+        → IsDurableFile H.crashes H.contents file old → ChangesOnly H.crashes files old new
+        → IsTrue (H.crashes.is_honest old) → (H.contents new).file file ≡ (H.contents old).file file }
 {}
 
 /// What an honest host's files hold is one of the images that a crash may leave.

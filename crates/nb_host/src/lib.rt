@@ -26,7 +26,7 @@ mod stored_file;
 pub use host::{Channel, Host, HostError, LAST_FILE, PLACE_LIMIT};
 pub use laws::{
     law_changes_both, law_changes_more, law_contents_are_left, law_durable_file, law_every_image,
-    law_limits,
+    law_images_of_both, law_limits,
 };
 pub use memory::MemoryHost;
 pub use outcome::Outcome;

@@ -20,8 +20,8 @@ use nb_model::NoMemory;
 use std::alloc::Global;
 
 /// Files and channels in memory. It tells all that it holds, and fails at the host calls that `fail_at` and
-/// `fuse` name and at no other. It records what each call did, so that it can say which images a crash may
-/// leave, and crash. Every count stands still at 2^64 - 1.
+/// `fuse` name and at no other. It records what each call did to a file or a channel, so that it can say
+/// which images a crash may leave, and crash. Every count stands still at 2^64 - 1.
 #[derive(Drop)]
 pub struct MemoryHost {
     disk: MemoryDisk,
@@ -108,6 +108,7 @@ impl MemoryHost {
         ensures crashed { OnOk result (events_of self.new ≡ Crashed outcome ∷ events_of self.old) }
         ensures images { ImagesFollow crashes_of self.old self.new Stays }
         ensures failing { OnOk result (failing_of self.new ≡ []) }
+        ensures since { OnOk result (calls_since_set self.new ≡ 0) }
         ensures fuse { OnOk result (fuse_of self.new ≡ Unset) }
         ensures nothing { OnErr result (events_of self.new ≡ events_of self.old) }
         ensures err { OnErr result (KeepsFailing self.old self.new) }
@@ -162,6 +163,7 @@ impl MemoryHost {
             → events_of self.new ≡ Said channel bytes.now (length bytes.now / 2) ∷ events_of self.old }
         ensures nothing { IsBlown self.old → events_of self.new ≡ events_of self.old }
         ensures no_memory { result ≡ Err HostError.NoMemory → events_of self.new ≡ events_of self.old }
+        ensures blown { IsBlown self.old → result ≡ Err Fault }
         ensures spoken { (events_of self.new ≡ events_of self.old)
             ⊎ ((done : ℕ) × (events_of self.new ≡ Said channel bytes.now done ∷ events_of self.old)) }
         ensures fault { CountsFault (faults_of self.old) (faults_of self.new) result }
@@ -178,13 +180,15 @@ impl MemoryHost {
     }
 }
 
-// How many of its bytes, so many in all, a call does: the first half of them, rounded down, where it fails.
+// How many of its bytes, so many in all, a call does: the first half of them, rounded down, where it is half
+// done.
 fn part_of(len: usize, fate: Fate) -> usize
     ensures { result ≡ part_by fate len }
 {
     match fate {
         Fate::Passes => len,
-        Fate::HalfDone | Fate::Nothing => len / 2,
+        Fate::HalfDone => len / 2,
+        Fate::Nothing => 0,
     }
 }
 
@@ -202,8 +206,8 @@ fn read(file: &[u8], at: usize, into: &mut [u8]) -> usize
 // Each method has the trait's clauses, which here need no host that tells, and says exactly what it does
 // besides.
 impl Host for MemoryHost {
-    ghost use Rattle.nb_host.specs.DiskLaws.{contents_is_image, image_counts, counts_only_now};
-    ghost use Rattle.nb_host.specs.Memory.{events_of, contents_of, crashes_of, reads_of, faults_of, refused_of, IsBlown, CountsCall};
+    ghost use Rattle.nb_host.specs.DiskLaws.{contents_is_image, image_counts, counts_only_now, counts_earlier};
+    ghost use Rattle.nb_host.specs.Memory.{events_of, contents_of, crashes_of, reads_of, faults_of, refused_of, IsBlown, IsDue, CountsCall};
 
     ghost tells = { λ _. true };
 
@@ -225,12 +229,16 @@ impl Host for MemoryHost {
 
     ghost counts_only_now = { λ host image _ since. counts_only_now (events_of host) image since };
 
+    ghost counts_earlier = { λ host early late image _ less since.
+        counts_earlier (events_of host) early late image less since };
+
     fn len(&mut self, file: u64) -> Result<u64, HostError>
         ensures length { IfOk result (λ n. n ≡ length ((contents_of self.old).file file)) }
         ensures same { contents_of self.new ≡ contents_of self.old }
         ensures images { ImagesFollow crashes_of self.old self.new Stays }
         ensures nothing { events_of self.new ≡ events_of self.old }
         ensures fault { CountsFault (faults_of self.old) (faults_of self.new) result }
+        ensures due { IsDue self.old → result ≡ Err Fault }
         ensures call { CountsCall self.old self.new result }
         ensures reads { reads_of self.new ≡ reads_of self.old }
         ensures refused { refused_of self.new ≡ refused_of self.old }
@@ -254,6 +262,7 @@ impl Host for MemoryHost {
         ensures images { ImagesFollow crashes_of self.old self.new Stays }
         ensures nothing { events_of self.new ≡ events_of self.old }
         ensures fault { CountsFault (faults_of self.old) (faults_of self.new) result }
+        ensures due { IsDue self.old → result ≡ Err Fault }
         ensures call { CountsCall self.old self.new result }
         ensures reads { reads_of self.new ≡ next_count (reads_of self.old) }
         ensures refused { refused_of self.new ≡ refused_of self.old }
@@ -283,7 +292,9 @@ impl Host for MemoryHost {
             → FileBecomes file (IsOverwritten at (first_half bytes.now))
             (contents_of self.old) (contents_of self.new) }
         ensures nothing { IsBlown self.old → events_of self.new ≡ events_of self.old }
+        ensures unrecorded { result ≡ Err HostError.NoMemory → events_of self.new ≡ events_of self.old }
         ensures fault { CountsFault (faults_of self.old) (faults_of self.new) result }
+        ensures blown { IsBlown self.old → result ≡ Err Fault }
         ensures call { CountsCall self.old self.new result }
         ensures reads { reads_of self.new ≡ reads_of self.old }
         ensures refused { refused_of self.new ≡ refused_of self.old }
@@ -306,6 +317,7 @@ impl Host for MemoryHost {
         ensures ok { OnOk result (events_of self.new ≡ Cut file len ∷ events_of self.old) }
         ensures nothing { OnErr result (events_of self.new ≡ events_of self.old) }
         ensures fault { CountsFault (faults_of self.old) (faults_of self.new) result }
+        ensures due { IsDue self.old → result ≡ Err Fault }
         ensures call { CountsCall self.old self.new result }
         ensures reads { reads_of self.new ≡ reads_of self.old }
         ensures refused { refused_of self.new ≡ refused_of self.old }
@@ -325,6 +337,7 @@ impl Host for MemoryHost {
         ensures ok { OnOk result (events_of self.new ≡ Synced ∷ events_of self.old) }
         ensures nothing { OnErr result (events_of self.new ≡ events_of self.old) }
         ensures fault { CountsFault (faults_of self.old) (faults_of self.new) result }
+        ensures due { IsDue self.old → result ≡ Err Fault }
         ensures call { CountsCall self.old self.new result }
         ensures reads { reads_of self.new ≡ reads_of self.old }
         ensures refused { refused_of self.new ≡ refused_of self.old }
@@ -350,7 +363,9 @@ impl Host for MemoryHost {
         ensures half_said { result ≡ Err Fault → (IsBlown self.old → ⊥)
             → Says channel (first_half bytes.now) (contents_of self.old) (contents_of self.new) }
         ensures nothing { IsBlown self.old → events_of self.new ≡ events_of self.old }
+        ensures unrecorded { result ≡ Err HostError.NoMemory → events_of self.new ≡ events_of self.old }
         ensures fault { CountsFault (faults_of self.old) (faults_of self.new) result }
+        ensures blown { IsBlown self.old → result ≡ Err Fault }
         ensures call { CountsCall self.old self.new result }
         ensures reads { reads_of self.new ≡ reads_of self.old }
         ensures refused { CountsRefusedSay channel (refused_of self.old) (refused_of self.new) result }

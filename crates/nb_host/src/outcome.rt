@@ -7,6 +7,7 @@ pub enum Outcome {
     Kept,
     /// None of it: each file is as at the last sync that succeeded.
     Lost,
-    /// Each file has the greatest length that it had since that sync, and each unsynced byte is this one.
+    /// Each file has its greatest length since that sync, the ends of failed writes counted, and each
+    /// unsynced byte is this one.
     Filled(u8),
 }

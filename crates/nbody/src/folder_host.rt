@@ -83,6 +83,8 @@ where
 
     ghost counts_only_now = { λ _ _ honest _. never_honest honest };
 
+    ghost counts_earlier = { λ _ _ _ _ honest _ _. never_honest honest };
+
     fn len(&mut self, file: u64) -> Result<u64, HostError> {
         let answer = self.folder.len(file);
         self.counted(answer)

@@ -1,5 +1,8 @@
 //! The files of the folder that stay open from one call of the host to the next.
 
+ghost use Rattle.std.specs.Prelude.{◌≡◌};
+ghost use Rattle.nbody.specs.declared.open_files.FileError.TheVariants.{Device, NoMemory};
+
 use crate::names::name_of;
 use std::alloc::{AllocError, AllocFailed, Global};
 use std::fs::{File, OpenOptions, metadata};
@@ -26,18 +29,24 @@ pub enum FileError {
 /// An error of a call on a file is a fault of the device, also where the system wanted memory: a part of
 /// the call may have been done.
 impl From<io::Error> for FileError {
+    ghost from_gives = { λ _ e. e ≡ Device };
+
     fn from(_: io::Error) -> Self {
         FileError::Device
     }
 }
 
 impl From<AllocError> for FileError {
+    ghost from_gives = { λ _ e. e ≡ NoMemory };
+
     fn from(_: AllocError) -> Self {
         FileError::NoMemory
     }
 }
 
 impl<T: Drop> From<AllocFailed<T>> for FileError {
+    ghost from_gives = { λ _ e. e ≡ NoMemory };
+
     fn from(_: AllocFailed<T>) -> Self {
         FileError::NoMemory
     }
