@@ -1,5 +1,5 @@
 -- The resident pages as a contract sees them, from the pairs of the map.
-use Rattle.std.proofs.Common.{◌≡◌, ◌≢◌, ℕ, inl, inr, true, false, List, [], ◌∷◌, length, take, map, refl, sym, ap, subst, ◌∙◌, arith, Contains}
+use Rattle.std.proofs.Common.{◌≡◌, ◌≢◌, ℕ, inl, inr, true, false, List, [], ◌∷◌, length, take, refl, sym, ap, subst, ◌∙◌, arith, Contains}
 use Rattle.std.specs.List.{IsDistinct}
 use Rattle.std.specs.Map.{keys_of}
 use Rattle.std.proofs.lemmas.Map.Entries.{length-keys_of}
@@ -8,18 +8,23 @@ use Rattle.lru.specs.LruCache.{IsValid, lru_cache}
 use Rattle.lru.proofs.CallerLemmas.{Contains-take}
 use Rattle.lru.proofs.Splits.{Contains-head, Contains-tail, Contains-cons, Contains-nil}
 use Rattle.nb_cache.specs.Names.{same_page}
-use Rattle.nb_cache.specs.View.{Held, CacheValue, held_of, laid}
-use Rattle.nb_cache.specs.Sound.{IsSound}
+use Rattle.nb_cache.specs.Stock.{Stock, held_of}
+use Rattle.nb_cache.specs.View.{Held, CacheValue, held_names, overlaid}
+use Rattle.nb_cache.specs.WriteThrough.{IsWriteThrough}
 use Rattle.nb_cache.specs.declared.frame.Frame.{Frame}
 use Rattle.nb_cache.proofs.Pages.{others, same_page_apart}
 
-abbrev pub value_of : List (PageName × Frame) → ℕ → List ℕ → CacheValue
-value_of es cap unwritten = record { pages = cap; held = held_of es; unwritten = unwritten }
+abbrev pub stock_of : List (PageName × Frame) → ℕ → ℕ → ℕ → Stock
+stock_of es cap spare room = record { pages = cap; held = held_of es; spare = spare; room = room }
+
+-- a cache, from its frames and its marks
+abbrev pub cache_of : Stock → List ℕ → CacheValue
+cache_of s unwritten = record { pages = s.pages; held = s.held; unwritten = unwritten }
 
 abbrev pub held : PageName × Frame → Held
 held e = record { name = e.0; bytes = e.1.bytes.items; waiting = false }
 
-pub names_of-held : (es : List (PageName × Frame)) → map (λ h. h.name) (held_of es) ≡ keys_of es
+pub names_of-held : (es : List (PageName × Frame)) → held_names (held_of es) ≡ keys_of es
 names_of-held [] = refl
 names_of-held (e ∷ es) = ap (λ l. e.0 ∷ l) (names_of-held es)
 
@@ -73,18 +78,17 @@ others_held n k es h has =
     )
 
 -- pages that don't wait are laid over nothing
-pub laid-held : (file : ℕ) (es : List (PageName × Frame)) (bytes : List ℕ) → laid file (held_of es) bytes ≡ bytes
-laid-held file [] bytes = refl
-laid-held file (e ∷ es) bytes = laid-held file es bytes
+pub overoverlaid-held : (file : ℕ) (es : List (PageName × Frame)) (bytes : List ℕ) → overlaid file (held_of es) bytes ≡ bytes
+overoverlaid-held file [] bytes = refl
+overoverlaid-held file (e ∷ es) bytes = overoverlaid-held file es bytes
 
-pub sound : (es : List (PageName × Frame)) (cap : ℕ) (unwritten : List ℕ) → IsValid same_page (lru_cache es cap)
-    → IsSound (value_of es cap unwritten)
-sound es cap unwritten valid = record {
+pub sound : (es : List (PageName × Frame)) (cap : ℕ) → IsValid same_page (lru_cache es cap) → IsWriteThrough cap (held_of es)
+sound es cap valid = record {
   distinct = subst (IsDistinct same_page) (sym (names_of-held es)) valid.0;
   bound = omega (arith, ap (λ l. length l) (names_of-held es), length-keys_of es, valid.1);
   positive = valid.2;
   whole = λ h has. let one = Contains-held es h has in
       subst (λ (g : Held). length g.bytes ≡ 4096) one.2 one.0.1.whole;
   written = λ h has. let one = Contains-held es h has in subst (λ (g : Held). g.waiting ≡ false) one.2 refl;
-  view = λ image file. laid-held file es (image.file file);
+  view = λ file bytes. overoverlaid-held file es bytes;
 }

@@ -8,8 +8,8 @@ use Rattle.nb_host.specs.Image.{Image}
 use Rattle.nb_host.proofs.Stretches.{begins, stays_after}
 use Rattle.nb_host.specs.declared.page_name.PageName.{PageName}
 use Rattle.nb_cache.specs.Names.{same_page, used, IsRising}
-use Rattle.nb_cache.specs.Place.{IsInStep}
-use Rattle.nb_cache.specs.Sound.{IsSound, IsReading}
+use Rattle.nb_cache.specs.InStep.{IsInStep}
+use Rattle.nb_cache.specs.WriteThrough.{IsWriteThrough, IsReading}
 use Rattle.nb_cache.specs.View.{CacheValue, names_of, IsWhole, IsFirstShort}
 use Rattle.nb_cache.proofs.Uses.{Lacks, used_next, used_none, rising_apart}
 
@@ -42,7 +42,7 @@ module _ {H S : Type 0} (crashes : CrashModel H) (tells : H → Bool) (contents 
     sound = two.sound;
   }
 
-  pub fetches_none : (old_cache : CacheValue) (old : H) → IsSound old_cache → IsInStep tells contents old_cache old
+  pub fetches_none : (old_cache : CacheValue) (old : H) → IsWriteThrough old_cache.pages old_cache.held → IsInStep tells contents old_cache old
       → Fetches old_cache old [] old_cache old
   fetches_none old_cache old sound in_step = record {
     names = used_none old_cache.pages (names_of old_cache) sound.bound;
@@ -66,14 +66,14 @@ module _ {H S : Type 0} (crashes : CrashModel H) (tells : H → Bool) (contents 
     pub whole_then : IsTrue (tells old) → IsWhole old_cache (contents old) k → IsWhole middle_cache (contents middle) k
     whole_then tell whole =
         subst (λ l. (k.page + 1) * 4096 ≤ length l)
-        (so_far.reads.was_sound.view (contents old) k.file ∙ ap (λ (i : Image). i.file k.file) (sym so_far.reads.same)
-        ∙ sym (so_far.reads.sound.view (contents middle) k.file)) whole
+        (so_far.reads.was_sound.view k.file ((contents old).file k.file) ∙ ap (λ (i : Image). i.file k.file) (sym so_far.reads.same)
+        ∙ sym (so_far.reads.sound.view k.file ((contents middle).file k.file))) whole
 
     pub whole_before : IsWhole middle_cache (contents middle) k → IsWhole old_cache (contents old) k
     whole_before whole =
         subst (λ l. (k.page + 1) * 4096 ≤ length l)
-        (so_far.reads.sound.view (contents middle) k.file ∙ ap (λ (i : Image). i.file k.file) so_far.reads.same
-        ∙ sym (so_far.reads.was_sound.view (contents old) k.file)) whole
+        (so_far.reads.sound.view k.file ((contents middle).file k.file) ∙ ap (λ (i : Image). i.file k.file) so_far.reads.same
+        ∙ sym (so_far.reads.was_sound.view k.file ((contents old).file k.file))) whole
 
     pub fetches_next : (new_cache : CacheValue) (new : H) → Lacks k done
         → names_of new_cache ≡ used middle_cache.pages (k ∷ []) (names_of middle_cache)

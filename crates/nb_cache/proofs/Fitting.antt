@@ -3,11 +3,11 @@ use Rattle.std.proofs.Common.{◌≡◌, ◌≢◌, ℕ, ◌+◌, ◌*◌, ◌==
 use Rattle.std.proofs.lemmas.Bool.Decides.{nat_tests}
 use Rattle.lru.proofs.Splits.{Contains-head, Contains-tail, Contains-cons, Contains-nil}
 use Rattle.nb_host.specs.Image.{Image, FileBecomes, IsTorn, overwritten, readable}
-use Rattle.nb_host.proofs.Steps.{readable-torn_after, readable-torn_before, readable-overwritten, length-readable}
+use Rattle.nb_host.proofs.Steps.{overwritten_is_torn, readable-torn_after, readable-torn_before, readable-overwritten, length-readable}
 use Rattle.nb_host.specs.declared.page_name.PageName.{PageName}
 use Rattle.nb_cache.specs.Names.{same_page, without_file}
-use Rattle.nb_cache.specs.Place.{IsPlace, Fits}
-use Rattle.nb_cache.specs.Sound.{IsSound}
+use Rattle.nb_cache.specs.InStep.{IsCacheable, Fits}
+use Rattle.nb_cache.specs.WriteThrough.{IsWriteThrough}
 use Rattle.nb_cache.specs.View.{Held, CacheValue, names_of, page_of, view_of, IsWhole}
 use Rattle.nb_cache.proofs.Pages.{same_page_eq}
 
@@ -41,14 +41,14 @@ fits_fewer old new image fits fewer = record {
 }
 
 -- a page of the host beside pages that were there
-pub fits_loaded : (old new : CacheValue) (image : Image) (k : PageName) (bytes : List ℕ) → IsPlace k
+pub fits_loaded : (old new : CacheValue) (image : Image) (k : PageName) (bytes : List ℕ) → IsCacheable k
     → bytes ≡ page_of (image.file k.file) k.page → Fits old image
     → ((h : Held) → Contains new.held h
     → (h ≡ record { name = k; bytes = bytes; waiting = false }) ⊎ (Contains old.held h × (h.name ≢ k)))
     → Fits new image
 fits_loaded old new image k bytes place page fits held = record {
   places = λ h has. elim (held h has) [
-    | inl new_one ↦ subst (λ (g : Held). IsPlace g.name) (sym new_one) place
+    | inl new_one ↦ subst (λ (g : Held). IsCacheable g.name) (sym new_one) place
     | inr one ↦ fits.places h one.0
   ];
   pages = λ h has. elim (held h has) [
@@ -57,7 +57,7 @@ fits_loaded old new image k bytes place page fits held = record {
   ];
 }
 
-same_or : (a b : ℕ) → (a ≡ b) ⊎ (a ≢ b)
+pub same_or : (a b : ℕ) → (a ≡ b) ⊎ (a ≢ b)
 same_or a b = (elim (a == b) as (λ y. (a == b) ≡ y → (a ≡ b) ⊎ (a ≢ b)) [
   | true ↦ λ test. inl (grind (arith, nat_tests))
   | false ↦ λ test. inr (λ same. grind (arith, nat_tests))
@@ -80,15 +80,15 @@ other_page old new k n torn apart whole = elim (same_or n.file k.file) [
 ]
 
 -- a page was written, perhaps in part: the others stay
-pub fits_written : (old new : CacheValue) (before after : Image) (k : PageName) (bytes : List ℕ) → IsPlace k
-    → FileBecomes k.file (IsTorn (k.page * 4096) 4096) before after → IsSound old → Fits old before
+pub fits_written : (old new : CacheValue) (before after : Image) (k : PageName) (bytes : List ℕ) → IsCacheable k
+    → FileBecomes k.file (IsTorn (k.page * 4096) 4096) before after → IsWriteThrough old.pages old.held → Fits old before
     → ((h : Held) → Contains new.held h
     → ((h ≡ record { name = k; bytes = bytes; waiting = false }) × (bytes ≡ page_of (after.file k.file) k.page))
     ⊎ (Contains old.held h × (h.name ≢ k)))
     → Fits new after
 fits_written old new before after k bytes place torn sound fits held = record {
   places = λ h has. elim (held h has) [
-    | inl one ↦ subst (λ (g : Held). IsPlace g.name) (sym one.0) place
+    | inl one ↦ subst (λ (g : Held). IsCacheable g.name) (sym one.0) place
     | inr one ↦ fits.places h one.0
   ];
   pages = λ h has. elim (held h has) [
@@ -140,7 +140,7 @@ named (h ∷ held) k has = elim (Contains-cons h.name (map (λ h. h.name) held) 
 ]
 
 -- a resident page is whole in the view
-pub resident_whole : (c : CacheValue) (image : Image) (k : PageName) → IsSound c → Fits c image
+pub resident_whole : (c : CacheValue) (image : Image) (k : PageName) → IsWriteThrough c.pages c.held → Fits c image
     → Contains (names_of c) k → IsWhole c image k
 resident_whole c image k sound fits has =
     let one = named c.held k has in
@@ -148,7 +148,7 @@ resident_whole c image k sound fits has =
     let full = ap (λ l. length l) (sym page) ∙ sound.whole one.0 one.1 in
     let whole = whole_page (image.file one.0.name.file) one.0.name.page full in
     subst (λ (n : PageName). (n.page + 1) * 4096 ≤ length (view_of c image n.file)) one.2
-    (subst (λ l. (one.0.name.page + 1) * 4096 ≤ length l) (sym (sound.view image one.0.name.file)) whole)
+    (subst (λ l. (one.0.name.page + 1) * 4096 ≤ length l) (sym (sound.view one.0.name.file (image.file one.0.name.file))) whole)
 
 -- a page of a file that was taken out isn't resident
 pub not_of_file : (file : ℕ) (names : List PageName) (n : PageName) → Contains (without_file file names) n
@@ -183,3 +183,19 @@ fits_emptied old new before after file P becomes fits held names =
       not_of_file file (names_of old) h.name
           (subst (λ l. Contains l h.name) names (name_there new.held h has)),
     ))
+
+-- what is said keeps a cache in step
+pub fits_said : (c : CacheValue) (before after : Image) → after.file ≡ before.file → Fits c before → Fits c after
+fits_said c before after same fits = record {
+  places = fits.places;
+  pages = λ h has written.
+      fits.pages h has written ∙ sym (ap (λ (f : ℕ → List ℕ). page_of (f h.name.file) h.name.page) same);
+}
+
+-- after a page was put, another that was whole is as before
+pub page_kept : (page other : ℕ) (bytes file : List ℕ) → length bytes ≡ 4096 → (other + 1) * 4096 ≤ length file
+    → other ≢ page → page_of (overwritten (page * 4096) bytes file) other ≡ page_of file other
+page_kept page other bytes file full whole apart =
+    page_stays page other file (overwritten (page * 4096) bytes file)
+    (subst (λ n. IsTorn (page * 4096) n file (overwritten (page * 4096) bytes file)) full
+    (overwritten_is_torn (page * 4096) bytes file)) whole apart

@@ -9,8 +9,9 @@ use Rattle.std.proofs.lemmas.Map.Keys.{IsDistinct-head, IsDistinct-tail}
 use Rattle.lru.proofs.Splits.{Contains-middle}
 use Rattle.nb_host.specs.declared.page_name.PageName.{PageName}
 use Rattle.std.proofs.lemmas.Option.{slice_get_cases}
-use Rattle.nb_cache.specs.Sound.{IsSound}
-use Rattle.nb_cache.specs.View.{Held, CacheValue, names_of}
+use Rattle.nb_cache.specs.WriteThrough.{IsWriteThrough}
+use Rattle.nb_cache.specs.Stock.{Stock, HasFrames}
+use Rattle.nb_cache.specs.View.{Held, held_names}
 use Rattle.nb_cache.specs.Names.{same_page, without, without_file, used}
 use Rattle.nb_cache.proofs.Pages.{same_page_refl}
 use Rattle.nb_cache.proofs.Uses.{Lacks, without_lacking}
@@ -119,56 +120,57 @@ is_some_last names some none =
     ]
 
 -- the pages of a file as far as they were taken out
-pub record Forgets (file counter : ℕ) (old now : CacheValue) : Type 0 where
-  pub within : counter ≤ length (names_of old)
-  pub names : names_of now ≡ kept file (length (names_of old) - counter) (names_of old)
+pub record Forgets (file counter : ℕ) (old now : Stock) : Type 0 where
+  pub within : counter ≤ length (held_names old.held)
+  pub names : held_names now.held ≡ kept file (length (held_names old.held) - counter) (held_names old.held)
   pub held : (h : Held) → Contains now.held h → Contains old.held h
   pub pages : now.pages ≡ old.pages
-  pub unwritten : now.unwritten ≡ old.unwritten
-  pub sound : IsSound now
+  pub frames : HasFrames (old.pages + 1) now
+  pub sound : IsWriteThrough now.pages now.held
 
-pub forgets_none : (file : ℕ) (old : CacheValue) → IsSound old → Forgets file 0 old old
-forgets_none file old sound = record {
+pub forgets_none : (file : ℕ) (old : Stock) → IsWriteThrough old.pages old.held → HasFrames (old.pages + 1) old
+    → Forgets file 0 old old
+forgets_none file old sound frames = record {
   within = omega arith;
-  names = kept_none file (length (names_of old) - 0) (names_of old) (omega arith);
+  names = kept_none file (length (held_names old.held) - 0) (held_names old.held) (omega arith);
   held = λ h has. has;
   pages = refl;
-  unwritten = refl;
+  frames = frames;
   sound = sound;
 }
 
-module _ (file counter : ℕ) (old now : CacheValue) (n : PageName) (so_far : Forgets file counter old now) (less : counter < length (names_of old)) (last : slice_get (names_of now) (length (names_of now) - 1) ≡ Some n) where
+module _ (file counter : ℕ) (old now : Stock) (n : PageName) (so_far : Forgets file counter old now) (less : counter < length (held_names old.held)) (last : slice_get (held_names now.held) (length (held_names now.held) - 1) ≡ Some n) where
   abbrev left : ℕ
-  left = length (names_of old) - (counter + 1)
+  left = length (held_names old.held) - (counter + 1)
 
-  are : names_of now ≡ kept file (left + 1) (names_of old)
-  are = let next : length (names_of old) - counter ≡ left + 1 = omega (arith, less) in
-      so_far.names ∙ ap (λ i. kept file i (names_of old)) next
+  are : held_names now.held ≡ kept file (left + 1) (held_names old.held)
+  are = let next : length (held_names old.held) - counter ≡ left + 1 = omega (arith, less) in
+      so_far.names ∙ ap (λ i. kept file i (held_names old.held)) next
 
-  within_old : left < length (names_of old)
+  within_old : left < length (held_names old.held)
   within_old = omega (arith, less)
 
-  pub forgets_there : Contains (names_of now) n
-  forgets_there = is_there file left (names_of old) (names_of now) n within_old are so_far.sound.distinct last
+  pub forgets_there : Contains (held_names now.held) n
+  forgets_there = is_there file left (held_names old.held) (held_names now.held) n within_old are so_far.sound.distinct last
 
-  pub forgets_next : (new : CacheValue)
-      → (n.file ≡ file → names_of new ≡ without (n ∷ []) (names_of now))
-      → (n.file ≢ file → names_of new ≡ used now.pages (n ∷ []) (names_of now))
+  pub forgets_next : (new : Stock)
+      → (n.file ≡ file → held_names new.held ≡ without (n ∷ []) (held_names now.held))
+      → (n.file ≢ file → held_names new.held ≡ used now.pages (n ∷ []) (held_names now.held))
       → ((h : Held) → Contains new.held h → Contains now.held h) → new.pages ≡ now.pages
-      → new.unwritten ≡ now.unwritten → IsSound new → Forgets file (counter + 1) old new
-  forgets_next new here other held pages unwritten sound = record {
+      → HasFrames (now.pages + 1) new → IsWriteThrough new.pages new.held → Forgets file (counter + 1) old new
+  forgets_next new here other held pages frames sound = record {
     within = omega (arith, less);
-    names = (elim (n.file == file) as (λ y. (n.file == file) ≡ y → names_of new ≡ kept file left (names_of old)) [
+    names = (elim (n.file == file) as (λ y. (n.file == file) ≡ y → held_names new.held ≡ kept file left (held_names old.held)) [
       | true ↦ λ test.
           here (grind (arith, nat_tests))
-          ∙ forgotten file left (names_of old) (names_of now) n within_old are so_far.sound.distinct last test
+          ∙ forgotten file left (held_names old.held) (held_names now.held) n within_old are so_far.sound.distinct last test
       | false ↦ λ test.
           other (λ same. grind (arith, nat_tests))
-          ∙ moved file left (names_of old) (names_of now) n within_old are so_far.sound.distinct last now.pages
+          ∙ moved file left (held_names old.held) (held_names now.held) n within_old are so_far.sound.distinct last now.pages
           so_far.sound.bound test
     ]) refl;
     held = λ h has. so_far.held h (held h has);
     pages = pages ∙ so_far.pages;
-    unwritten = unwritten ∙ so_far.unwritten;
+    frames = subst (λ n. HasFrames (n + 1) new) so_far.pages frames;
     sound = sound;
   }

@@ -1,7 +1,9 @@
+pub mod Counting
 pub mod Entries
 pub mod Fetching
 pub mod Fitting
 pub mod Forgetting
+pub mod Marking
 pub mod Pages
 pub mod Residents
 pub mod Uses

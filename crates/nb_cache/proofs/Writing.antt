@@ -1,35 +1,36 @@
 -- What calls of the cache leave alone, and how that composes.
-use Rattle.std.proofs.Common.{◌≡◌, ℕ, inl, inr, Bool, IsTrue, List, [], ◌∷◌, ◌++◌, length, map, refl, sym, ap, subst, ◌∙◌, arith, Contains}
+use Rattle.std.proofs.Common.{◌≡◌, ℕ, inl, inr, Bool, IsTrue, List, [], ◌∷◌, ◌++◌, refl, sym, ap, subst, ◌∙◌, Contains}
 use Rattle.std.proofs.lemmas.List.Elements.{Contains-append_left, Contains-append_right, Contains-append_cases}
 use Rattle.lru.proofs.Splits.{Contains-head, Contains-nil}
 use Rattle.nb_host.specs.Crashes.{CrashModel, ImagesFollow, Stays, AgreesOutside}
 use Rattle.nb_host.specs.Image.{Image, FileBecomes}
 use Rattle.nb_host.proofs.Stretches.{begins, weaken, agrees_itself, changes_more, changes_both, changes_file}
-use Rattle.nb_cache.specs.Place.{IsInStep}
-use Rattle.nb_cache.specs.Sound.{IsSound, IsReading}
-use Rattle.std.specs.List.{IsDistinct}
-use Rattle.nb_cache.specs.Names.{same_page}
-use Rattle.nb_cache.specs.View.{Held, CacheValue, laid}
+use Rattle.nb_cache.specs.InStep.{IsInStep}
+use Rattle.nb_cache.specs.WriteThrough.{IsWriteThrough, IsReading}
+use Rattle.nb_cache.specs.View.{CacheValue}
 use Rattle.nb_cache.proofs.Fitting.{fits_fewer}
 use Rattle.nb_cache.specs.Writes.{Writes}
 
--- what is sound doesn't depend on which files were put into
-pub sound_other : (old new : CacheValue) → IsSound old → new.held ≡ old.held → new.pages ≡ old.pages → IsSound new
-sound_other old new sound held pages = record {
-  distinct = subst (λ (hs : List Held). IsDistinct same_page (map (λ h. h.name) hs)) (sym held) sound.distinct;
-  bound = omega (arith, sound.bound, pages, ap (λ (hs : List Held). length (map (λ h. h.name) hs)) held);
-  positive = omega (arith, sound.positive, pages);
-  whole = λ h has. sound.whole h (subst (λ l. Contains l h) held has);
-  written = λ h has. sound.written h (subst (λ l. Contains l h) held has);
-  view = λ image file.
-      ap (λ (hs : List Held). laid file hs (image.file file)) held ∙ sound.view image file;
-}
-
 module _ {H : Type 0} (crashes : CrashModel H) (tells : H → Bool) (contents : H → Image) where
+  -- no call yet
+  pub writes_begins : (files : List ℕ) (cache : CacheValue) (host : H) → IsInStep tells contents cache host
+      → Writes crashes tells contents files cache host cache host
+  writes_begins files cache host in_step = record {
+    images = weaken crashes host host Stays (AgreesOutside (files ++ cache.unwritten)) (begins crashes host)
+        (λ start image stays. subst (λ (i : Image). AgreesOutside (files ++ cache.unwritten) start i) (sym stays)
+        (agrees_itself (files ++ cache.unwritten) start));
+    unwritten = λ file has. Contains-append_right files cache.unwritten file has;
+    pages = refl;
+    told = refl;
+    in_step = in_step;
+    agrees = λ _. agrees_itself (files ++ cache.unwritten) (contents host);
+    view = λ _ file spared. refl;
+  }
+
   -- nothing was written
   pub writes_nothing : (files : List ℕ) (old_cache : CacheValue) (old : H) (new_cache : CacheValue) (new : H)
       → ImagesFollow crashes old new Stays → contents new ≡ contents old → tells new ≡ tells old
-      → IsSound old_cache → IsSound new_cache → IsInStep tells contents new_cache new
+      → IsWriteThrough old_cache.pages old_cache.held → IsWriteThrough new_cache.pages new_cache.held → IsInStep tells contents new_cache new
       → new_cache.pages ≡ old_cache.pages
       → ((file : ℕ) → Contains new_cache.unwritten file → Contains (files ++ old_cache.unwritten) file)
       → Writes crashes tells contents files old_cache old new_cache new
@@ -45,8 +46,8 @@ module _ {H : Type 0} (crashes : CrashModel H) (tells : H → Bool) (contents : 
         agrees = λ _. subst (λ (i : Image). AgreesOutside (files ++ old_cache.unwritten) (contents old) i) (sym same)
             (agrees_itself (files ++ old_cache.unwritten) (contents old));
         view = λ _ file spared.
-            sound_new.view (contents new) file ∙ ap (λ (i : Image). i.file file) same
-            ∙ sym (sound_old.view (contents old) file);
+            sound_new.view file ((contents new).file file) ∙ ap (λ (i : Image). i.file file) same
+            ∙ sym (sound_old.view file ((contents old).file file));
       }
 
   pub writes_reading : (old_cache : CacheValue) (old : H) (new_cache : CacheValue) (new : H)
@@ -60,7 +61,7 @@ module _ {H : Type 0} (crashes : CrashModel H) (tells : H → Bool) (contents : 
   pub writes_file : (number : ℕ) (P : List ℕ → List ℕ → Type 0) (old_cache : CacheValue) (old : H)
       (new_cache : CacheValue) (new : H) → ImagesFollow crashes old new (FileBecomes number P)
       → (IsTrue (tells old) → FileBecomes number P (contents old) (contents new)) → tells new ≡ tells old
-      → IsSound old_cache → IsSound new_cache → IsInStep tells contents new_cache new
+      → IsWriteThrough old_cache.pages old_cache.held → IsWriteThrough new_cache.pages new_cache.held → IsInStep tells contents new_cache new
       → new_cache.pages ≡ old_cache.pages
       → ((file : ℕ) → Contains new_cache.unwritten file → Contains (number ∷ old_cache.unwritten) file)
       → Writes crashes tells contents (number ∷ []) old_cache old new_cache new
@@ -80,10 +81,10 @@ module _ {H : Type 0} (crashes : CrashModel H) (tells : H → Bool) (contents : 
           said = step.said;
         };
         view = λ tell file spared.
-            sound_new.view (contents new) file
+            sound_new.view file ((contents new).file file)
             ∙ (becomes tell).others file
             (λ same. spared (subst (Contains (number ∷ [])) (sym same) (Contains-head number [])))
-            ∙ sym (sound_old.view (contents old) file);
+            ∙ sym (sound_old.view file ((contents old).file file));
       }
 
   -- fewer files
@@ -162,12 +163,12 @@ module _ {H : Type 0} (crashes : CrashModel H) (tells : H → Bool) (contents : 
       }
 
   -- the same pages, and no file left that was put into
-  pub writes_flushed : (old_cache : CacheValue) (host : H) (new_cache : CacheValue) → IsSound old_cache
-      → IsInStep tells contents old_cache host → new_cache.held ≡ old_cache.held → new_cache.pages ≡ old_cache.pages
+  pub writes_flushed : (old_cache : CacheValue) (host : H) (new_cache : CacheValue) → IsWriteThrough old_cache.pages old_cache.held
+      → IsWriteThrough new_cache.pages new_cache.held → IsInStep tells contents old_cache host → new_cache.held ≡ old_cache.held → new_cache.pages ≡ old_cache.pages
       → new_cache.unwritten ≡ [] → Writes crashes tells contents [] old_cache host new_cache host
-  writes_flushed old_cache host new_cache sound in_step held pages unwritten =
+  writes_flushed old_cache host new_cache sound after in_step held pages unwritten =
       writes_nothing [] old_cache host new_cache host (begins crashes host) refl refl sound
-      (sound_other old_cache new_cache sound held pages)
+      after
       (λ tell. fits_fewer old_cache new_cache (contents host) (in_step tell)
       (λ h has. subst (λ l. Contains l h) held has)) pages
       (λ file has. absurd (Contains-nil file (subst (λ l. Contains l file) unwritten has)))

@@ -3,7 +3,7 @@ use Rattle.std.specs.Prelude.{◌≡◌, ℕ, Bool, IsTrue, List, ◌++◌, Cont
 use Rattle.nb_host.specs.Image.{Image}
 use Rattle.nb_host.specs.Crashes.{CrashModel, ChangesOnly, AgreesOutside}
 use Rattle.nb_cache.specs.View.{CacheValue, view_of}
-use Rattle.nb_cache.specs.Place.{IsInStep}
+use Rattle.nb_cache.specs.InStep.{IsInStep}
 
 -- Calls that take a cache write these files alone: a call of the cache itself, or of a crate above, whatever it answers.
 -- Every image since the start agrees, but in these files and in those that were unwritten at the start, with one at the

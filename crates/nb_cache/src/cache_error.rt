@@ -5,7 +5,6 @@ ghost use Rattle.nb_cache.specs.declared.cache_error.CacheError.TheVariants.{NoM
 ghost use Rattle.nb_cache.specs.Errors.{of_host};
 
 use nb_host::{HostError, PageName};
-use std::alloc::{AllocError, AllocFailed};
 
 /// Why a call of the cache was refused.
 #[derive(Clone, Copy, PartialEq, Eq, Debug)]
@@ -29,18 +28,10 @@ impl From<HostError> for CacheError {
     }
 }
 
-impl From<AllocError> for CacheError {
+impl From<nb_model::NoMemory> for CacheError {
     ghost from_gives = { λ _ e. e ≡ NoMemory };
 
-    fn from(_: AllocError) -> Self {
-        CacheError::NoMemory
-    }
-}
-
-impl<T: Drop> From<AllocFailed<T>> for CacheError {
-    ghost from_gives = { λ _ e. e ≡ NoMemory };
-
-    fn from(_: AllocFailed<T>) -> Self {
+    fn from(_: nb_model::NoMemory) -> Self {
         CacheError::NoMemory
     }
 }

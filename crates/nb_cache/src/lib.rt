@@ -2,14 +2,16 @@
 //!
 //! The cache has a view: the files of the host, with pages that were put and not yet written laid over
 //! them. Contracts speak of the view, so that they say nothing of when a page is written. This cache writes
-//! each page at once. `View` in `specs/` has the view, `Names` the list of resident names, `Place` when a
+//! each page at once. `View` in `specs/` has the view, `Names` the list of resident names, `InStep` when a
 //! cache is in step with a host, and `Writes` what calls that take a cache leave alone.
 #![tactic(auto)]
 
 mod cache;
 mod cache_error;
 mod frame;
+mod frames;
 mod load;
+mod marks;
 
 pub use cache::Cache;
 pub use cache_error::CacheError;

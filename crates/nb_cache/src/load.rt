@@ -4,7 +4,7 @@ ghost use Rattle.std.specs.Prelude.{◌≡◌, ◌≢◌, ◌+◌, ◌*◌, ◌�
 ghost use Rattle.nb_host.specs.declared.page_name.PageName.{PageName as PageNames};
 ghost use Rattle.nb_host.specs.Crashes.{ImagesFollow, Stays};
 ghost use Rattle.nb_cache.specs.Errors.{CountsCacheFault};
-ghost use Rattle.nb_cache.specs.Place.{IsPlace};
+ghost use Rattle.nb_cache.specs.InStep.{IsCacheable};
 ghost use Rattle.nb_cache.specs.View.{page_of};
 
 use crate::cache_error::CacheError;
@@ -17,7 +17,7 @@ pub(crate) fn load<H: Host>(
     name: PageName,
     frame: &mut Frame,
 ) -> Result<(), CacheError>
-    requires { IsPlace name }
+    requires { IsCacheable name }
     ensures page { OnOk result (IsTrue (H.tells host.old)
         → frame.new.bytes.items ≡ page_of ((H.contents host.old).file name.file) name.page) }
     ensures whole { OnOk result (IsTrue (H.tells host.old)

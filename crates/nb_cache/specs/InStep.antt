@@ -5,14 +5,14 @@ use Rattle.nb_host.specs.declared.page_name.PageName.{PageName}
 use Rattle.nb_cache.specs.View.{Held, CacheValue, page_of}
 
 -- a page that may go through a cache
-pub record IsPlace (name : PageName) : Type 0 where
+pub record IsCacheable (name : PageName) : Type 0 where
   pub least : 3 ≤ name.file
   pub greatest : name.file ≤ 7
   pub page : name.page < 2 ^ 48
 
 -- every resident page may be there, and one that doesn't wait is the host's
 pub record Fits (c : CacheValue) (image : Image) : Type 0 where
-  pub places : (h : Held) → Contains c.held h → IsPlace h.name
+  pub places : (h : Held) → Contains c.held h → IsCacheable h.name
   pub pages : (h : Held) → Contains c.held h → h.waiting ≡ false
       → h.bytes ≡ page_of (image.file h.name.file) h.name.page
 

@@ -1,0 +1,42 @@
+use Rattle.std.proofs.Common.{Some, option_map, false, vec_len, vec_capacity, ap, refl, sym, subst, ◌∙◌, is_some, ℕ, List, Contains}
+use Rattle.nb_cache.proofs.Residents.{resident_found, found_resident, lent_page, page_shown, nothing_waits}
+use Rattle.nb_cache.specs.declared.frame.Frame.{Frame}
+use Rattle.nb_cache.proofs.frames.Frames.lent.Goals as goal
+
+pub returns-in-Some-clause-resident : goal.returns-in-Some-clause-resident
+returns-in-Some-clause-resident c = (
+  λ _. resident_found c.self.inside.resident (vec_len c.self.inside.spare) (vec_capacity c.self.inside.spare) c.args.self.now c.self.view_is c.args.name
+      (ap is_some (sym c.in-Some.ensures)),
+  λ _. refl,
+)
+
+pub returns-in-Some-clause-held : goal.returns-in-Some-clause-held
+returns-in-Some-clause-held c =
+    subst (λ (bytes : List ℕ). Contains c.args.self.now.held (record { name = c.args.name; bytes = bytes; waiting = false }))
+    (sym c.deref.ensures.value)
+    (lent_page c.self.inside.resident (vec_len c.self.inside.spare) (vec_capacity c.self.inside.spare) c.args.self.now c.self.view_is c.args.name
+    c.in-Some.frame.now (sym c.in-Some.ensures))
+
+pub returns-in-Some-clause-written : goal.returns-in-Some-clause-written
+returns-in-Some-clause-written c = nothing_waits c.self.inside.resident (vec_len c.self.inside.spare) (vec_capacity c.self.inside.spare) c.args.self.now c.self.view_is
+
+pub returns-in-None-clause-resident : goal.returns-in-None-clause-resident
+returns-in-None-clause-resident c = (
+  λ resident. (cc),
+  λ has. ap is_some c.in-None.ensures
+      ∙ found_resident c.self.inside.resident (vec_len c.self.inside.spare) (vec_capacity c.self.inside.spare) c.args.self.now c.self.view_is c.args.name has,
+)
+
+pub returns-in-None-clause-written : goal.returns-in-None-clause-written
+returns-in-None-clause-written c = nothing_waits c.self.inside.resident (vec_len c.self.inside.spare) (vec_capacity c.self.inside.spare) c.args.self.now c.self.view_is
+
+pub returns-in-Some-clause-shown : goal.returns-in-Some-clause-shown
+returns-in-Some-clause-shown c =
+    ap Some c.deref.ensures.value
+    ∙ ap (option_map (λ (f : Frame). f.bytes.items)) c.in-Some.ensures
+    ∙ page_shown c.self.inside.resident (vec_len c.self.inside.spare) (vec_capacity c.self.inside.spare) c.args.self.now c.self.view_is c.args.name
+
+pub returns-in-None-clause-shown : goal.returns-in-None-clause-shown
+returns-in-None-clause-shown c =
+    ap (option_map (λ (f : Frame). f.bytes.items)) c.in-None.ensures
+    ∙ page_shown c.self.inside.resident (vec_len c.self.inside.spare) (vec_capacity c.self.inside.spare) c.args.self.now c.self.view_is c.args.name

@@ -1,0 +1,241 @@
+//! The frames of a cache, and which pages they hold.
+
+ghost use Rattle.std.specs.Prelude.{◌≡◌, ◌≢◌, ℕ, List, ◌+◌, ◌-◌, ◌^◌, ◌<◌, ◌≤◌, ◌↔◌, ◌⊎◌, vec_len, vec_capacity, false, [], ◌∷◌, IsTrue, option_map, IsSome, IfSome, IfOk, OnOk, OnErr, Contains, length, slice_get};
+ghost use Rattle.nb_cache.specs.Names.{used, without, without_file};
+ghost use Rattle.nb_cache.specs.WriteThrough.{IsWriteThrough};
+ghost use Rattle.nb_cache.specs.Stock.{HasFrames};
+ghost use Rattle.nb_cache.specs.View.{Held, held_names, shown, overlaid};
+
+use crate::frame::Frame;
+use lru::LruCache;
+use nb_host::PageName;
+use nb_model::NoMemory;
+use std::alloc::Global;
+use std::marker::Model;
+use std::num::NonZeroUsize;
+
+/// The frames of a cache: one for each page that it has, and one more, into which a page is read before
+/// another leaves for it. They are taken once, and a page that leaves gives its frame to the spare ones.
+#[derive(Drop)]
+pub(crate) struct Frames {
+    /// The resident pages, the most recently used first.
+    resident: LruCache<PageName, Frame>,
+    /// The frames that hold no page.
+    spare: Vec<Frame>,
+}
+
+impl Model for Frames {
+    ghost use Rattle.std.specs.Prelude.{vec_len, vec_capacity};
+    ghost use Rattle.nb_cache.specs.Stock.{Stock, held_of};
+
+    ghost Value = { Stock };
+
+    ghost view = { λ f. record {
+      pages = f.resident.cap;
+      held = held_of f.resident.entries;
+      spare = vec_len f.spare;
+      room = vec_capacity f.spare;
+    } };
+}
+
+impl Frames {
+    /// The frames of a cache of so many pages, all of them spare.
+    pub(crate) fn new(alloc: Global, pages: usize) -> Result<Frames, NoMemory>
+        requires some { 0 < pages }
+        requires few { pages < 2 ^ 32 }
+        ensures pages { IfOk result (λ f. f.pages ≡ pages) }
+        ensures held { IfOk result (λ f. f.held ≡ []) }
+        ensures frames { IfOk result (λ f. HasFrames (pages + 1) f) }
+    {
+        let capacity = NonZeroUsize::new(pages).unwrap();
+        let resident = LruCache::new(alloc, capacity)?;
+        let spare = spare_frames(alloc, pages + 1)?;
+        Ok(Frames { resident, spare })
+    }
+
+    /// How many pages may be resident.
+    pub(crate) fn pages(&self) -> usize
+        ensures { result ≡ self.now.pages }
+    {
+        self.resident.cap().get()
+    }
+
+    /// How many pages are resident. Like the map's `len`, it tells the proof what holds of them.
+    pub(crate) fn len(&self) -> usize
+        ensures count { result ≡ length (held_names self.now.held) }
+        ensures sound { IsWriteThrough self.now.pages self.now.held }
+    {
+        self.resident.len()
+    }
+
+    /// The bytes of a resident page.
+    pub(crate) fn lent(&self, name: PageName) -> Option<&[u8]>
+        ensures resident { IsSome result ↔ Contains (held_names self.now.held) name }
+        ensures held { IfSome result (λ bytes. Contains self.now.held
+            (record { name = name; bytes = bytes.now; waiting = false })) }
+        ensures shown { option_map (λ bytes. bytes.now) result ≡ shown self.now.held name }
+        ensures whole { IfSome result (λ bytes. length bytes.now ≡ 4096) }
+        ensures written { (file : ℕ) (bytes : List ℕ) → overlaid file self.now.held bytes ≡ bytes }
+    {
+        match self.resident.peek(&name) {
+            Some(frame) => Some(&frame.bytes),
+            None => None,
+        }
+    }
+
+    /// Makes a resident page the most recently used, and tells whether it is resident.
+    pub(crate) fn promote(&mut self, name: PageName) -> bool
+        ensures found { IsTrue result ↔ Contains (held_names self.old.held) name }
+        ensures absent { result ≡ false → self.new ≡ self.old }
+        ensures resident { IsTrue result → held_names self.new.held
+            ≡ used self.old.pages (name ∷ []) (held_names self.old.held) }
+        ensures fewer { (h : Held) → Contains self.new.held h → Contains self.old.held h }
+        ensures pages { self.new.pages ≡ self.old.pages }
+        ensures frames { (n : ℕ) → HasFrames n self.old → HasFrames n self.new }
+        ensures sound { IsWriteThrough self.new.pages self.new.held }
+    {
+        let _ = self.resident.len();
+        let found = self.resident.promote(&name);
+        let _ = self.resident.len();
+        found
+    }
+
+    /// A spare frame. There is always one where none has been taken.
+    pub(crate) fn take(&mut self) -> Frame
+        requires { HasFrames (self.old.pages + 1) self.old }
+        ensures held { self.new.held ≡ self.old.held }
+        ensures pages { self.new.pages ≡ self.old.pages }
+        ensures frames { HasFrames self.old.pages self.new }
+    {
+        let _ = self.resident.len();
+        self.spare.pop().unwrap()
+    }
+
+    /// Puts the frame that was taken back among the spare ones.
+    pub(crate) fn give(&mut self, frame: Frame)
+        requires { HasFrames self.old.pages self.old }
+        ensures held { self.new.held ≡ self.old.held }
+        ensures pages { self.new.pages ≡ self.old.pages }
+        ensures frames { HasFrames (self.old.pages + 1) self.new }
+    {
+        put_away(&mut self.spare, frame);
+    }
+
+    /// Puts the frame that was taken under a name, as the most recently used. The page that leaves gives its
+    /// frame back.
+    pub(crate) fn place(&mut self, name: PageName, frame: Frame) -> Result<(), NoMemory>
+        requires { HasFrames self.old.pages self.old }
+        ensures resident { OnOk result (held_names self.new.held
+            ≡ used self.old.pages (name ∷ []) (held_names self.old.held)) }
+        ensures held { OnOk result ((h : Held) → Contains self.new.held h
+            → (h ≡ record { name = name; bytes = frame.bytes.items; waiting = false })
+            ⊎ (Contains self.old.held h × (h.name ≢ name))) }
+        ensures refusal { OnErr result (self.new.held ≡ self.old.held) }
+        ensures pages { self.new.pages ≡ self.old.pages }
+        ensures frames { HasFrames (self.old.pages + 1) self.new }
+        ensures sound { IsWriteThrough self.new.pages self.new.held }
+    {
+        let _ = self.resident.len();
+        match self.resident.push(name, frame) {
+            Ok(displaced) => {
+                let _ = self.resident.len();
+                if let Some((_, frame)) = displaced {
+                    put_away(&mut self.spare, frame);
+                }
+                Ok(())
+            }
+            Err(failed) => {
+                let (_, frame) = failed.value;
+                put_away(&mut self.spare, frame);
+                Err(NoMemory)
+            }
+        }
+    }
+
+    /// Takes a page out.
+    pub(crate) fn forget(&mut self, name: PageName)
+        requires { HasFrames (self.old.pages + 1) self.old }
+        ensures resident { held_names self.new.held ≡ without (name ∷ []) (held_names self.old.held) }
+        ensures held { (h : Held) → Contains self.new.held h → Contains self.old.held h × (h.name ≢ name) }
+        ensures pages { self.new.pages ≡ self.old.pages }
+        ensures frames { HasFrames (self.old.pages + 1) self.new }
+        ensures sound { IsWriteThrough self.new.pages self.new.held }
+    {
+        let _ = self.resident.len();
+        let gone = self.resident.pop(&name);
+        let _ = self.resident.len();
+        if let Some(frame) = gone {
+            put_away(&mut self.spare, frame);
+        }
+    }
+
+    /// Takes out the pages of a file. Each resident page is looked at once, the least recently used first,
+    /// and one that stays goes to the front, so that those that stay are in their old order at the end.
+    pub(crate) fn forget_file(&mut self, file: u64)
+        requires { HasFrames (self.old.pages + 1) self.old }
+        ensures resident { held_names self.new.held ≡ without_file file (held_names self.old.held) }
+        ensures held { (h : Held) → Contains self.new.held h → Contains self.old.held h }
+        ensures pages { self.new.pages ≡ self.old.pages }
+        ensures frames { HasFrames (self.old.pages + 1) self.new }
+        ensures sound { IsWriteThrough self.new.pages self.new.held }
+    {
+        let resident = self.len();
+        for _ in 0..resident {
+            let Some(name) = self.last() else {
+                return;
+            };
+            self.pass(file, name);
+        }
+    }
+
+    /// Takes out a page of this file, or makes one of another file the most recently used.
+    fn pass(&mut self, file: u64, name: PageName)
+        requires frames { HasFrames (self.old.pages + 1) self.old }
+        requires resident { Contains (held_names self.old.held) name }
+        ensures gone { name.file ≡ file
+            → held_names self.new.held ≡ without (name ∷ []) (held_names self.old.held) }
+        ensures moved { name.file ≢ file
+            → held_names self.new.held ≡ used self.old.pages (name ∷ []) (held_names self.old.held) }
+        ensures held { (h : Held) → Contains self.new.held h → Contains self.old.held h }
+        ensures pages { self.new.pages ≡ self.old.pages }
+        ensures frames { HasFrames (self.old.pages + 1) self.new }
+        ensures sound { IsWriteThrough self.new.pages self.new.held }
+    {
+        if name.file == file {
+            self.forget(name);
+            return;
+        }
+        let _ = self.promote(name);
+    }
+
+    /// The name of the least recently used page.
+    fn last(&self) -> Option<PageName>
+        ensures { result ≡ slice_get (held_names self.now.held) (length (held_names self.now.held) - 1) }
+    {
+        match self.resident.peek_lru() {
+            Some((name, _)) => Some(*name),
+            None => None,
+        }
+    }
+}
+
+/// So many frames.
+fn spare_frames(alloc: Global, count: usize) -> Result<Vec<Frame>, NoMemory>
+    ensures count { IfOk result (λ frames. vec_len frames ≡ count) }
+    ensures room { IfOk result (λ frames. count ≤ vec_capacity frames) }
+{
+    let mut frames = Vec::with_capacity(alloc, count)?;
+    for _ in 0..count {
+        frames.push(Frame::new(alloc)?)?;
+    }
+    Ok(frames)
+}
+
+/// Puts a frame among the spare ones, for which there is room.
+fn put_away(spare: &mut Vec<Frame>, frame: Frame)
+    requires { vec_len spare.old < vec_capacity spare.old }
+    ensures count { vec_len spare.new ≡ vec_len spare.old + 1 }
+    ensures room { vec_capacity spare.old ≤ vec_capacity spare.new }
+{
+    let _ = spare.push(frame);
+}
