@@ -14,7 +14,7 @@ use Rattle.nb_record.specs.Order.{precedes, insert_by, sorted_by, IsSortedByRank
 -- ---- the order of two bodies
 
 -- the first comes before the second
-abbrev Before : (Body → ℕ) → Body → Body → Type 0
+abbrev pub Before : (Body → ℕ) → Body → Body → Type 0
 Before rank a b = (rank a < rank b) ⊎ ((rank a ≡ rank b) × (a.id < b.id))
 
 before_by : (m n i j : ℕ) → (ltb m n || (eqb m n && ltb i j)) ≡ true → (m < n) ⊎ ((m ≡ n) × (i < j))
@@ -54,30 +54,30 @@ never rank a b one other = never_both (rank a) (rank b) a.id b.id one other
 
 -- ---- lists, element by element
 
-abbrev Each : (Body → Type 0) → List Body → Type 0
+abbrev pub Each : (Body → Type 0) → List Body → Type 0
 Each P [] = Unit {0}
 Each P (b ∷ bs) = P b × Each P bs
 
-each_implied : (P Q : Body → Type 0) (bs : List Body) → ((b : Body) → P b → Q b) → Each P bs → Each Q bs
+pub each_implied : (P Q : Body → Type 0) (bs : List Body) → ((b : Body) → P b → Q b) → Each P bs → Each Q bs
 each_implied P Q [] implies each = tt
 each_implied P Q (b ∷ bs) implies each = (implies b each.0, each_implied P Q bs implies each.1)
 
 -- each body comes before all behind it
-abbrev Ordered : (Body → ℕ) → List Body → Type 0
+abbrev pub Ordered : (Body → ℕ) → List Body → Type 0
 Ordered rank [] = Unit {0}
 Ordered rank (b ∷ bs) = Each (Before rank b) bs × Ordered rank bs
 
 -- ---- an insertion, by whether the body precedes the first
 
-insert_here : (rank : Body → ℕ) (b c : Body) (cs : List Body) → precedes rank b c ≡ true → insert_by rank b (c ∷ cs) ≡ b ∷ c ∷ cs
+pub insert_here : (rank : Body → ℕ) (b c : Body) (cs : List Body) → precedes rank b c ≡ true → insert_by rank b (c ∷ cs) ≡ b ∷ c ∷ cs
 unfolding insert_by
 insert_here rank b c cs is = cond-true (precedes rank b c) (b ∷ c ∷ cs) (c ∷ insert_by rank b cs) is
 
-insert_behind : (rank : Body → ℕ) (b c : Body) (cs : List Body) → precedes rank b c ≡ false → insert_by rank b (c ∷ cs) ≡ c ∷ insert_by rank b cs
+pub insert_behind : (rank : Body → ℕ) (b c : Body) (cs : List Body) → precedes rank b c ≡ false → insert_by rank b (c ∷ cs) ≡ c ∷ insert_by rank b cs
 unfolding insert_by
 insert_behind rank b c cs is = cond-false (precedes rank b c) (b ∷ c ∷ cs) (c ∷ insert_by rank b cs) is
 
-insert_nil : (rank : Body → ℕ) (b : Body) → insert_by rank b [] ≡ b ∷ []
+pub insert_nil : (rank : Body → ℕ) (b : Body) → insert_by rank b [] ≡ b ∷ []
 unfolding insert_by
 insert_nil rank b = refl
 
@@ -85,7 +85,7 @@ pub either : (t : Bool) → (t ≡ true) ⊎ (t ≡ false)
 either true = inl refl
 either false = inr refl
 
-each_inserted : (P : Body → Type 0) (rank : Body → ℕ) (b : Body) (cs : List Body) → P b → Each P cs → Each P (insert_by rank b cs)
+pub each_inserted : (P : Body → Type 0) (rank : Body → ℕ) (b : Body) (cs : List Body) → P b → Each P cs → Each P (insert_by rank b cs)
 each_inserted P rank b [] here each = subst (Each P) (sym (insert_nil rank b)) (here, tt)
 each_inserted P rank b (c ∷ cs) here each =
     elim (either (precedes rank b c)) [
@@ -116,11 +116,11 @@ permuted_inserted rank b (c ∷ cs) =
 
 -- ---- the whole list
 
-sorted_cons : (rank : Body → ℕ) (b : Body) (bs : List Body) → sorted_by rank (b ∷ bs) ≡ insert_by rank b (sorted_by rank bs)
+pub sorted_cons : (rank : Body → ℕ) (b : Body) (bs : List Body) → sorted_by rank (b ∷ bs) ≡ insert_by rank b (sorted_by rank bs)
 unfolding sorted_by
 sorted_cons rank b bs = refl
 
-sorted_nil : (rank : Body → ℕ) → sorted_by rank [] ≡ []
+pub sorted_nil : (rank : Body → ℕ) → sorted_by rank [] ≡ []
 unfolding sorted_by
 sorted_nil rank = refl
 
@@ -131,7 +131,7 @@ permuted rank (b ∷ bs) =
     (IsPermutation-trans (b ∷ bs) (b ∷ sorted_by rank bs) (insert_by rank b (sorted_by rank bs))
     (IsPermutation-cons b bs (sorted_by rank bs) (permuted rank bs)) (permuted_inserted rank b (sorted_by rank bs)))
 
-each_sorted : (P : Body → Type 0) (rank : Body → ℕ) (bs : List Body) → Each P bs → Each P (sorted_by rank bs)
+pub each_sorted : (P : Body → Type 0) (rank : Body → ℕ) (bs : List Body) → Each P bs → Each P (sorted_by rank bs)
 each_sorted P rank [] each = subst (Each P) (sym (sorted_nil rank)) tt
 each_sorted P rank (b ∷ bs) each =
     subst (Each P) (sym (sorted_cons rank b bs)) (each_inserted P rank b (sorted_by rank bs) each.0 (each_sorted P rank bs each.1))
@@ -145,14 +145,14 @@ abbrev Apart : (Body → ℕ) → List Body → Type 0
 Apart rank [] = Unit {0}
 Apart rank (b ∷ bs) = Each (Differ rank b) bs × Apart rank bs
 
-apart_by_ids : (rank : Body → ℕ) (bs : List Body) → HaveDifferentIds bs → Apart rank bs
+pub apart_by_ids : (rank : Body → ℕ) (bs : List Body) → HaveDifferentIds bs → Apart rank bs
 apart_by_ids rank [] different = tt
 apart_by_ids rank (b ∷ bs) different = (
   each_by_place (Differ rank b) bs (λ k d below _. different 0 (suc k) d (omega arith) (omega arith)),
   apart_by_ids rank bs (λ i j d before within. different (suc i) (suc j) d (omega arith) (omega arith)),
 )
 
-ordered : (rank : Body → ℕ) (bs : List Body) → Apart rank bs → Ordered rank (sorted_by rank bs)
+pub ordered : (rank : Body → ℕ) (bs : List Body) → Apart rank bs → Ordered rank (sorted_by rank bs)
 ordered rank [] apart = subst (Ordered rank) (sym (sorted_nil rank)) tt
 ordered rank (b ∷ bs) apart =
     subst (Ordered rank) (sym (sorted_cons rank b bs))
@@ -221,7 +221,7 @@ apart_permuted rank xs ys is order =
 
 -- ---- neighbours, and all
 
-neighbours : (rank : Body → ℕ) (bs : List Body) → Ordered rank bs → IsSortedByRank rank bs
+pub neighbours : (rank : Body → ℕ) (bs : List Body) → Ordered rank bs → IsSortedByRank rank bs
 neighbours rank [] is = tt
 neighbours rank (b ∷ []) is = tt
 neighbours rank (b ∷ c ∷ cs) is = (by_before (rank b) (rank c) b.id c.id is.0.0, neighbours rank (c ∷ cs) is.1)
@@ -231,7 +231,7 @@ first_before rank b [] is = tt
 first_before rank b (c ∷ cs) is =
     (before rank b c is.0, each_implied (Before rank c) (Before rank b) cs (λ d behind. before-trans rank b c d (before rank b c is.0) behind) (first_before rank c cs is.1))
 
-all_before : (rank : Body → ℕ) (bs : List Body) → IsSortedByRank rank bs → Ordered rank bs
+pub all_before : (rank : Body → ℕ) (bs : List Body) → IsSortedByRank rank bs → Ordered rank bs
 all_before rank [] is = tt
 all_before rank (b ∷ []) is = (tt, tt)
 all_before rank (b ∷ c ∷ cs) is = (first_before rank b (c ∷ cs) is, all_before rank (c ∷ cs) is.1)
@@ -241,7 +241,7 @@ sorted rank bs different = neighbours rank (sorted_by rank bs) (ordered rank bs 
 
 -- ---- no other list
 
-abbrev In : Body → List Body → Type 0
+abbrev pub In : Body → List Body → Type 0
 In z [] = ⊥
 In z (b ∷ bs) = (z ≡ b) ⊎ In z bs
 
@@ -262,7 +262,7 @@ moved xs ys is z within =
     let place = Contains-permutation xs ys z is (contained z xs within) in
     in_from_place z ys place.0 place.1 place.2
 
-each_in : (P : Body → Type 0) (z : Body) (bs : List Body) → Each P bs → In z bs → P z
+pub each_in : (P : Body → Type 0) (z : Body) (bs : List Body) → Each P bs → In z bs → P z
 each_in P z [] each within = absurd within
 each_in P z (b ∷ bs) each (inl here) = subst P (sym here) each.0
 each_in P z (b ∷ bs) each (inr behind) = each_in P z bs each.1 behind

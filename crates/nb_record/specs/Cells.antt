@@ -1,5 +1,5 @@
 -- The cells of the tree of a list of bodies (Barnes and Hut 1986; a cell's key is Warren and Salmon's, 1993).
-use Rattle.std.specs.Prelude.{ℕ, zero, suc, ◌-◌, ◌^◌, nat_lt, nat_le, if◌then◌else◌, List, [], ◌∷◌, ◌++◌, length, sum_by, count_by}
+use Rattle.std.specs.Prelude.{◌≡◌, ◌≢◌, ◌⊎◌, ℕ, zero, suc, ◌-◌, ◌/◌, ◌^◌, ◌<◌, ◌≤◌, ◌==◌, nat_lt, nat_le, if◌then◌else◌, List, [], ◌∷◌, ◌++◌, length, filter, sum_by, count_by}
 use Rattle.std.specs.List.{flat_map, list_all}
 use Rattle.nb_model.specs.declared.body.Body.{Body}
 use Rattle.nb_model.specs.declared.params.Params.{Params}
@@ -7,7 +7,7 @@ use Rattle.nb_model.specs.Limits.{deepest_level}
 use Rattle.nb_model.specs.Octree.{in_octant, total_mass, centre_of_mass}
 use Rattle.nb_model.specs.Gravity.{octants}
 use Rattle.nb_model.specs.Leapfrog.{in_box}
-use Rattle.nb_key.specs.Morton.{key_of, morton_key}
+use Rattle.nb_key.specs.Morton.{key_of, key_at, morton_key, IsKeyAt}
 use Rattle.nb_record.specs.declared.cell.Cell.{Cell}
 
 -- The number of a cell's first body in the file of bodies: how many of all bodies in the box have a Morton key below those
@@ -46,3 +46,20 @@ cells_to_depth params all (suc depth) path (b ∷ bs) =
 -- the cells of the tree of a list of bodies: those of its bodies in the box, from the root cell down
 abbrev pub tree_cells : Params → List Body → List Cell
 tree_cells params bodies = cells_to_depth params (in_box bodies) deepest_level [] (in_box bodies)
+
+-- the bodies that lie in the cell at this level with this key, in their order
+abbrev pub in_cell : ℕ → ℕ → List Body → List Body
+in_cell level key bodies = filter (λ b. key_at level b.at == key) bodies
+
+-- A cell of the tree of these bodies, which are in the box: one at this level that isn't empty, and that is the root or
+-- an octant of a divided cell. `law_tree_cells` says that the tree has exactly these.
+pub record IsTreeCell (params : Params) (all : List Body) (level : ℕ) (cell : Cell) : Type 0 where
+  pub key : IsKeyAt level cell.key
+  pub some : in_cell level cell.key all ≢ []
+  pub parent : level ≢ 0 → params.leaf < length (in_cell (level - 1) (cell.key / 8) all)
+  pub mass : cell.mass ≡ total_mass (in_cell level cell.key all)
+  pub centre : cell.centre ≡ centre_of_mass (in_cell level cell.key all)
+  pub first : cell.first ≡ first_body all (in_cell level cell.key all)
+  pub count : cell.count ≡ length (in_cell level cell.key all)
+  pub leaf : (length (in_cell level cell.key all) ≤ params.leaf) ⊎ (level ≡ deepest_level) → cell.kids ≡ 0
+  pub divided : params.leaf < length (in_cell level cell.key all) → level < deepest_level → cell.kids ≡ kids_of level (in_cell level cell.key all)

@@ -9,7 +9,7 @@ use Rattle.nb_record.specs.Order.{by_key, sorted_by, IsSortedByRank, HoldsBodies
 use Rattle.nb_record.specs.Cells.{tree_cells}
 use Rattle.nb_record.specs.Table.{IsCellTable}
 
--- how many bodies a chain of the table is to serve at most
+-- for how many bodies the table has a chain: chains differ in length, and none is bounded by this
 abbrev pub bodies_per_chain : ℕ
 bodies_per_chain = 64
 
