@@ -1,0 +1,5 @@
+pub mod Calls
+pub mod Copying
+pub mod Pushing
+pub mod Reading
+pub mod Sorting
