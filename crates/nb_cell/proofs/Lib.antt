@@ -1,0 +1,9 @@
+pub mod Adding
+pub mod Following
+pub mod Growing
+pub mod Inserting
+pub mod Looking
+pub mod Making
+pub mod Paging
+pub mod Reaching
+pub mod Writing

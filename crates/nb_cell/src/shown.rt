@@ -1,0 +1,31 @@
+//! A resident page of a file of cells, as a search sees it.
+
+ghost use Rattle.std.specs.Prelude.{◌≡◌, ◌==◌, if◌then◌else◌, Some, None, length};
+
+use nb_record::{BodyPage, CellPage, Lender, PageError};
+
+/// Shows one page of a file of cells, in the bytes that the cache lends, and no page of bodies.
+#[derive(Drop)]
+pub(crate) struct Shown<'a> {
+    pub(crate) page: u64,
+    pub(crate) bytes: &'a [u8],
+    ghost whole: { length bytes.now ≡ 4096 },
+}
+
+impl<'a> Lender for Shown<'a> {
+    ghost cells = { λ shown page. if shown.page == page then Some shown.bytes.now else None };
+
+    ghost bodies = { λ shown page. None };
+
+    fn cell_page(&self, page: u64) -> Option<Result<CellPage<'_>, PageError>> {
+        if self.page != page {
+            return None;
+        }
+        let bytes = self.bytes;
+        Some(CellPage::check(bytes, page))
+    }
+
+    fn body_page(&self, _page: u64) -> Option<Result<BodyPage<'_>, PageError>> {
+        None
+    }
+}
