@@ -1,6 +1,6 @@
 //! The arithmetic of a pull, in whole numbers, and the tick of a list of bodies by the definition itself.
 //!
-//! `root`, `trunc_div`, `pull` and `opens` are what every walk of a tree calls, and take no memory.
+//! `root`, `trunc_div`, `pull` and `opens` are what a force is made of, and take no memory.
 //! `plain_tick` has no keys and no pages: it is the definition run, for small lists and for comparison.
 #![tactic(auto)]
 

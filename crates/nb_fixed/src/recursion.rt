@@ -1,4 +1,5 @@
-//! The force of a list of bodies on a position, by the definition's own recursion.
+//! The force of a list of bodies on a position, by the definition's recursion, but that it goes down to an
+//! octant at once where all bodies of the cell lie in it.
 
 ghost use Rattle.std.specs.Prelude.{◌≡◌, ◌*◌, ◌^◌, ◌<◌, ◌≤◌, length, All, IfOk};
 ghost use Rattle.nb_model.specs.Limits.{deepest_level, most_bodies, weight_limit, speed_limit};

@@ -11,7 +11,7 @@ use Rattle.nb_format.specs.ParamsText.{name_at}
 unfoldable pub started_line : (bodies time : ℕ) → List ℕ
 started_line bodies time = codes "started bodies " ++ decimal bodies ++ codes " time " ++ decimal time ++ codes "\n"
 
--- a tick is stable: its number, the time behind it, and how many bodies are out
+-- a tick is durable: its number, the time behind it, and how many bodies are out
 unfoldable pub tick_line : (k time out : ℕ) → List ℕ
 tick_line k time out = codes "tick " ++ decimal k ++ codes " time " ++ decimal time ++ codes " out " ++ decimal out ++ codes "\n"
 

@@ -3,8 +3,8 @@
 //! `snap_reader` accepts exactly a snapshot or names its first bad field (`specs/Snapshot` and
 //! `SnapshotRefusal`), `snap_writer` fills a file that is finished only when it is right, and `finished`
 //! looks whether one is. `params_reader` accepts exactly a parameter text or names its first fault
-//! (`specs/ParamsText`). `text` is a line in place, and `said`, `parameter` and `refusals_said` make the
-//! lines of `specs/Lines`.
+//! (`specs/ParamsText`). `text` is a line in place. `said` and `refusals_said` make the lines of `specs/Lines`,
+//! and `parameter` those of a parameter text.
 #![tactic(auto)]
 
 mod bytes;

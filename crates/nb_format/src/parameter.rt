@@ -1,4 +1,5 @@
-//! The line of one parameter, as `show` says it and `demo` writes it.
+//! The line of one parameter, in its canonical form. It is laid down for commands that aren't built yet:
+//! `show` is to say it, and `demo` to write it.
 #![tactic(auto, using(crate::proofs::Decimals::digit_counts))]
 
 ghost use Rattle.std.specs.Prelude.{◌≡◌, ◌<◌, ◌≤◌, length, slice_index};

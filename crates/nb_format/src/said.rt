@@ -1,4 +1,5 @@
-//! The lines on Out: what is done. Times are in ticks, and `out` is how many bodies have left the box.
+//! The lines on Out: what is done. Times are in ticks, and `out` is how many bodies have left the box. Today
+//! the program says that of `once` alone: `start`, `go`, `resume`, `show`, `make` and `demo` aren't built.
 
 ghost use Rattle.std.specs.Prelude.{◌≡◌, ◌≤◌};
 ghost use Rattle.nb_model.specs.Limits.{most_bodies, most_ticks};
@@ -18,7 +19,7 @@ pub fn started_line(bodies: u64, time: u64) -> Text
         .then(b"\n")
 }
 
-/// The line where a tick is stable: `k` is its number, and `time` the time behind it.
+/// The line where a tick is durable: `k` is its number, and `time` the time behind it.
 #[tactic(auto, using(crate::proofs::Decimals::digit_counts), unfolding(crate::specs::Lines::tick_line))]
 pub fn tick_line(k: u64, time: u64, out: u64) -> Text
     ensures { result ≡ tick_line k time out }

@@ -1,8 +1,8 @@
 //! The snapshot writer, as three types: `Fresh` is to be begun, `Filling` takes bodies, `Closed` is a
 //! finished file.
 //!
-//! Byte 0 of a snapshot is its gate. It is a stable 0 from before the file grows past one byte until all
-//! else is stable, and is opened last, so a file that a fault or a crash leaves in part is never taken for
+//! Byte 0 of a snapshot is its gate. It is a durable 0 from before the file grows past one byte until all
+//! else is durable, and is opened last, so a file that a fault or a crash leaves in part is never taken for
 //! a finished one.
 
 ghost use Rattle.std.specs.Prelude.{◌≡◌, ℕ, ◌+◌, ◌<◌, ◌≤◌, IsTrue, IfOk, OnOk, List, [], ◌∷◌, ◌++◌};
@@ -96,7 +96,7 @@ impl Fresh {
         })
     }
 
-    /// Leaves nothing of the file but a stable 0 in place of its gate.
+    /// Leaves nothing of the file but a durable 0 in place of its gate.
     fn shut<H: Host>(&self, host: &mut H) -> Result<(), HostError>
         ensures shut { OnOk result (IsTrue (H.tells host.old)
             → FileBecomes (fresh_plan self.now).file IsShut (H.contents host.old) (H.contents host.new)) }
@@ -152,7 +152,7 @@ impl Filling {
         })
     }
 
-    /// Makes all that was written stable, and then opens the gate. A refusal hands nothing back: the file is
+    /// Makes all that was written durable, and then opens the gate. A refusal hands nothing back: the file is
     /// unfinished then, or finished with the right bytes.
     pub fn close<H: Host>(self, host: &mut H) -> Result<Closed, HostError>
         requires { added_count self ≡ (plan_of self).count }

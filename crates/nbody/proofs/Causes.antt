@@ -1,10 +1,9 @@
 -- Which causes exclude each other.
-use Rattle.std.proofs.Common.{◌≡◌, ◌⊎◌, inl, inr, ℕ, List, refl, sym, ap, subst, ◌∙◌}
+use Rattle.std.proofs.Common.{◌≡◌, ◌⊎◌, inl, inr, ℕ, List, sym, ap, subst, ◌∙◌}
 use Rattle.nb_host.specs.Image.{Image}
 use Rattle.nb_format.proofs.Snapshots.{one_snapshot}
 use Rattle.nb_format.proofs.SnapshotRefusals.{snapshot_none}
 use Rattle.nbody.specs.declared.refusal.Refusal.{Refusal}
-use Rattle.nbody.specs.declared.refusal.Refusal.TheVariants as refusal
 use Rattle.nbody.specs.Words.{IsOnce, IsNoCommand}
 use Rattle.nbody.specs.Refusal.{IsFree}
 use Rattle.nbody.specs.Once.{Start, HasStart, IsReady, IsRefused}

@@ -1,6 +1,5 @@
 -- What `once` finds in its files, and why it refuses it.
-use Rattle.std.proofs.Common.{◌≡◌, ◌⊎◌, inl, inr, ℕ, ◌<◌, Ok, Some, None, List, [], length, refl, sym, ap, subst, ◌∙◌, arith}
-use Rattle.std.specs.Prelude.{replicate}
+use Rattle.std.proofs.Common.{◌≡◌, ◌⊎◌, inl, inr, ℕ, ◌<◌, Ok, Some, List, [], length, refl, sym, ap, subst, ◌∙◌, arith}
 use Rattle.std.proofs.lemmas.Bool.Decides.{nat_tests}
 use Rattle.nb_model.specs.declared.body.Body.{Body}
 use Rattle.nb_model.specs.declared.params.Params.{Params}
@@ -16,10 +15,9 @@ use Rattle.nb_format.specs.Reader.{HasRead}
 use Rattle.nb_format.specs.Snapshot.{IsSnapshot}
 use Rattle.nb_format.specs.SnapshotRefusal.{snapshot_refusal, IsBySnapshot}
 use Rattle.nb_format.specs.Writer.{IsFinishedAs}
-use Rattle.nbody.specs.declared.refusal.Refusal.{Refusal}
 use Rattle.nbody.specs.declared.refusal.Refusal.TheVariants as refusal
 use Rattle.nbody.specs.Refusal.{IsFree, refusal_by_reader}
-use Rattle.nbody.specs.Once.{params_file, init_file, once_file, most_once_bodies, Start, HasStart, list_at, start_refusal, IsReady, IsRefused}
+use Rattle.nbody.specs.Once.{params_file, init_file, once_file, most_once_bodies, Start, HasStart, list_at, start_refusal, IsRefused}
 
 snapshot_refused : {files : ℕ → List ℕ} {target : ℕ} {params : Params} {error : SnapError} → params_of (files params_file) ≡ Ok params
     → snapshot_refusal (files init_file) ≡ Some error → IsFree (refusal.Snapshot error) ⊎ IsRefused files target (refusal.Snapshot error)

@@ -9,7 +9,7 @@ use Rattle.nbody.specs.declared.refusal.Refusal.{Refusal}
 use Rattle.nbody.specs.declared.refusal.Refusal.TheVariants as refusal
 use Rattle.nbody.specs.Words.{IsOnce, IsNoCommand}
 use Rattle.nbody.specs.Refusal.{status_of, refusal_line}
-use Rattle.nbody.specs.Once.{once_file, Start, ticks_to, list_at, IsReady, IsRefused}
+use Rattle.nbody.specs.Once.{once_file, Start, ticks_to, list_at, IsRefused}
 
 -- the statuses of the program: 0 where the command was done, and those of the refusals
 abbrev pub statuses : List ℕ

@@ -2,7 +2,6 @@
 use Rattle.std.specs.Prelude.{◌≡◌, ◌⊎◌, ⊤, ℕ, List}
 use Rattle.nb_host.specs.declared.host.HostError.{HostError}
 use Rattle.nb_host.specs.declared.host.HostError.TheVariants as host
-use Rattle.nb_format.specs.declared.params_error.ParamsError.{ParamsError}
 use Rattle.nb_format.specs.declared.snap_error.SnapError.{SnapError}
 use Rattle.nb_format.specs.declared.snap_error.SnapError.TheVariants as snap
 use Rattle.nb_format.specs.ParamsText.{NamesParameter}

@@ -82,7 +82,7 @@ impl<R: Files<File = File> + AllocGlobal + Clone + Drop> Folder<R> {
         Ok(())
     }
 
-    /// Makes the files and the folder stable.
+    /// Makes the files and the folder durable.
     pub fn sync(&mut self) -> Result<(), FileError> {
         if !self.was_synced {
             sync_program_files(&self.rt)?;

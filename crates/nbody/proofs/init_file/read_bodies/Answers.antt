@@ -1,7 +1,7 @@
-use Rattle.std.proofs.Common.{◌≡◌, List, [], ◌∷◌, ◌++◌, rules, arith, ap, Err, subst, sym, IsTrue, ◌∙◌}
+use Rattle.std.proofs.Common.{◌≡◌, List, [], ◌∷◌, ◌++◌, rules, arith, Err, subst, sym, IsTrue, ◌∙◌}
 use Rattle.std.proofs.lemmas.Grind.{common_steps}
 use Rattle.nb_model.specs.declared.body.Body.{Body}
-use Rattle.nb_format.specs.Reader.{file_of, MayFollow, IsBehind}
+use Rattle.nb_format.specs.Reader.{MayFollow, IsBehind}
 use Rattle.nbody.specs.Once.{init_file}
 use Rattle.nbody.proofs.Reading.{HasGiven, HasGiven-more, IsBad, IsFrontOf-same, not_ended, file-same}
 use Rattle.nbody.proofs.init_file.read_bodies.Goals as goal

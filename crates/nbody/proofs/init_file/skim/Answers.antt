@@ -1,5 +1,5 @@
-use Rattle.std.proofs.Common.{◌≡◌, rules, arith, ap, Err, subst, sym, IsTrue, ◌∙◌}
-use Rattle.nb_format.specs.Reader.{file_of, MayFollow, IsBehind}
+use Rattle.std.proofs.Common.{◌≡◌, rules, arith, Err, subst, sym, IsTrue, ◌∙◌}
+use Rattle.nb_format.specs.Reader.{MayFollow, IsBehind}
 use Rattle.nbody.specs.Once.{init_file}
 use Rattle.nbody.proofs.Reading.{HasGiven-more, IsBad, IsFrontOf-same, not_ended, file-same}
 use Rattle.nbody.proofs.init_file.skim.Goals as goal

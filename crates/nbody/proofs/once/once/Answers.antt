@@ -1,9 +1,7 @@
-use Rattle.std.proofs.Common.{rules, ◌≡◌, ◌⊎◌, inr, ℕ, List, Err, length, refl, sym, ap, subst, ◌∙◌, arith, IsTrue}
-use Rattle.nb_model.specs.declared.body.Body.{Body}
+use Rattle.std.proofs.Common.{rules, ◌≡◌, ◌⊎◌, inr, Err, refl, sym, ap, subst, ◌∙◌, arith, IsTrue}
 use Rattle.std.specs.Prelude.{replicate}
 use Rattle.nb_model.specs.Leapfrog.{escaped_count, steps}
 use Rattle.nb_format.specs.Reader.{time_of}
-use Rattle.nb_host.specs.Image.{Image}
 use Rattle.nbody.specs.Refusal.{IsFree, refusal_by_reader}
 use Rattle.nbody.specs.Once.{Start, HasStart, list_at, IsReady, IsRefused}
 use Rattle.nbody.proofs.Starts.{refused_by_reader, header_read, refused_still, start_refusal-many, start_read, list_at-taken, becomes_from, written_list}
