@@ -7,5 +7,6 @@ pub mod Faults
 pub mod Files
 pub mod Image
 pub mod Memory
+pub mod Page
 pub mod Plan
 pub mod Record

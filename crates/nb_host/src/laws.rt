@@ -6,6 +6,7 @@ ghost use Rattle.nb_host.specs.Crashes.{IsStretch, ChangesOnly, EverySince, Agre
 ghost use Rattle.nb_host.specs.Image.{Image};
 
 use crate::host::{Host, LAST_FILE, PLACE_LIMIT};
+use crate::page_name::PAGE_SIZE;
 
 /// A stretch of calls that changes only some files changes only more of them.
 pub fn law_changes_more<H: Host>()
@@ -54,8 +55,10 @@ pub fn law_contents_are_left<H: Host>()
     ensures { (host : H) → IsTrue (H.crashes.is_honest host) → H.crashes.may_leave host (H.contents host) }
 {}
 
-/// The greatest number of a file, and what the end of a write or a read in a file is below, in bytes.
+/// The greatest number of a file, what the end of a write or a read in a file is below, in bytes, and the length
+/// of a page.
 pub fn law_limits()
     ensures last_file { LAST_FILE ≡ 16 + 2 ^ 40 }
     ensures place { PLACE_LIMIT ≡ 2 ^ 62 }
+    ensures page { PAGE_SIZE ≡ 4096 }
 {}

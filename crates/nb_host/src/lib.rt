@@ -30,4 +30,4 @@ pub use laws::{
 };
 pub use memory::MemoryHost;
 pub use outcome::Outcome;
-pub use page_name::PageName;
+pub use page_name::{PAGE_SIZE, PageName};

@@ -1,7 +1,10 @@
-//! The names of pages of files.
+//! The pages of files, and their names.
 
-/// A page of a file: number `page`, from 0 on, of its pages of 4096 bytes. Names are ordered by file, then by
-/// page.
+/// The length of a page, in bytes. Page number p of a file, from 0 on, is its bytes from `p * PAGE_SIZE` on.
+pub const PAGE_SIZE: usize = 4096;
+
+/// A page of a file: number `page`, from 0 on, of its pages of `PAGE_SIZE` bytes. Names are ordered by file,
+/// then by page.
 #[derive(Clone, Copy, PartialEq, Eq, PartialOrd, Ord, Hash, Debug)]
 pub struct PageName {
     /// The file's number.
