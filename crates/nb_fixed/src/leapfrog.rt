@@ -1,7 +1,7 @@
 //! One tick of a list of bodies, forward or back: a half kick, a whole drift, a half kick.
 
 ghost use Rattle.std.specs.Prelude.{◌≡◌, ◌*◌, ◌<◌, ◌≤◌, length, All, IfOk, OnOk, OnErr, true, if◌then◌else◌};
-ghost use Rattle.nb_model.specs.Limits.{weight_limit, speed_limit, most_bodies};
+ghost use Rattle.nb_model.specs.Limits.{gm_limit, speed_limit, most_bodies};
 ghost use Rattle.nb_model.specs.Vector.{zero_vector};
 ghost use Rattle.nb_model.specs.Gravity.{force_on};
 ghost use Rattle.nb_model.specs.Octree.{total_mass};
@@ -50,7 +50,7 @@ fn kicked_body(
     requires params { AreInRange params.now }
     requires each { All IsValidBody inside.now }
     requires count { length inside.now ≤ most_bodies }
-    requires weight { params.now.grav * total_mass inside.now < weight_limit }
+    requires gm { params.now.grav * total_mass inside.now < gm_limit }
     requires body { IsValidBody body }
     ensures { IfOk result (λ kicked. kicked ≡ accelerate way
         (if body.out then zero_vector else force_on params.now body.at 0 inside.now) body) }

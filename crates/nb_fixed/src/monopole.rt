@@ -1,7 +1,7 @@
 //! The pull of a mass: a softened monopole.
 
 ghost use Rattle.std.specs.Prelude.{◌≡◌, ◌+◌, ◌*◌, ◌/◌, ◌%◌, ◌^◌, ◌<◌, ◌≤◌, pos, ◌-ℤ◌, unsigned_abs};
-ghost use Rattle.nb_model.specs.Limits.{weight_limit};
+ghost use Rattle.nb_model.specs.Limits.{gm_limit};
 ghost use Rattle.nb_model.specs.Root.{integer_root};
 ghost use Rattle.nb_model.specs.Gravity.{pull, pull_along};
 ghost use Rattle.nb_model.specs.Valid.{AreInRange, IsInBox};
@@ -13,7 +13,7 @@ use nb_model::{At, Params, V3};
 /// The inverse of a root is a part of this.
 const ONE: u64 = 1 << 63;
 
-/// What the three axes of a pull share: the softened square with its root, and the weight over that square.
+/// What the three axes of a pull share: the softened square with its root, and GM over that square.
 #[derive(Drop)]
 struct Scale {
     /// The softened square, from 1 on.
@@ -22,15 +22,15 @@ struct Scale {
     root: u64,
     /// `ONE` over the root, rounded down.
     inverse: u64,
-    /// The weight over the square, rounded down.
+    /// GM over the square, rounded down.
     whole: u64,
-    /// The weight modulo the square.
+    /// GM modulo the square.
     rest: u64,
     ghost some_square: { 1 ≤ square },
     ghost root_of_square: { root ≡ integer_root square },
     ghost inverse_of_root: { inverse ≡ 2 ^ 63 / root },
     ghost part: { rest < square },
-    ghost weight: { whole * square + rest < weight_limit },
+    ghost gm: { whole * square + rest < gm_limit },
 }
 
 /// A quotient and what the division leaves.
@@ -44,7 +44,7 @@ struct Quotient {
 /// the quotient or one less.
 #[inline(always)]
 fn over_root(scale: &Scale, n: u64) -> Quotient
-    requires { n < weight_limit }
+    requires { n < gm_limit }
     ensures floor { result.floor ≡ n / scale.now.root }
     ensures over { result.over ≡ n % scale.now.root }
 {
@@ -59,16 +59,16 @@ fn over_root(scale: &Scale, n: u64) -> Quotient
     }
 }
 
-/// The size of the pull along an axis at this distance: the weight over the square, times the distance, over
+/// The size of the pull along an axis at this distance: GM over the square, times the distance, over
 /// the root.
 fn size_along(scale: &Scale, distance: u64) -> u64
     requires { distance * distance ≤ scale.now.square }
     ensures value { result ≡ (scale.now.whole * scale.now.square + scale.now.rest) * distance
         / (scale.now.square * scale.now.root) }
-    ensures bound { result < weight_limit }
+    ensures bound { result < gm_limit }
 {
     let Quotient { floor, over } = over_root(scale, scale.whole * distance);
-    // The rest of the weight adds one where it makes up for what is missing.
+    // The rest of GM adds one where it makes up for what is missing.
     let missing = (scale.root - over) as u128 * scale.square as u128;
     let made_up = scale.rest as u128 * distance as u128;
     if missing <= made_up { floor + 1 } else { floor }
@@ -89,13 +89,13 @@ pub fn pull(params: &Params, from: &At, mass: u64, centre: &At) -> V3
     requires params { AreInRange params.now }
     requires from { IsInBox from.now }
     requires centre { IsInBox centre.now }
-    requires weight { params.now.grav * mass < weight_limit }
+    requires gm { params.now.grav * mass < gm_limit }
     ensures { result ≡ pull params.now from.now mass centre.now }
 {
-    let weight = params.grav * mass;
+    let gm = params.grav * mass;
     let soft = u128::from(params.soft);
     let square = distance_squared(from, centre) + soft * soft;
-    if square > u128::from(weight) {
+    if square > u128::from(gm) {
         // Each distance is at most the root, so that each quotient is below 1.
         return V3 { x: 0, y: 0, z: 0 };
     }
@@ -105,8 +105,8 @@ pub fn pull(params: &Params, from: &At, mass: u64, centre: &At) -> V3
         square,
         root,
         inverse: ONE / root,
-        whole: weight / square,
-        rest: weight % square,
+        whole: gm / square,
+        rest: gm % square,
     };
     V3 {
         x: along(&scale, from.x, centre.x),

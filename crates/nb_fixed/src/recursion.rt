@@ -2,7 +2,7 @@
 //! octant at once where all bodies of the cell lie in it.
 
 ghost use Rattle.std.specs.Prelude.{◌≡◌, ◌*◌, ◌^◌, ◌<◌, ◌≤◌, length, All, IfOk};
-ghost use Rattle.nb_model.specs.Limits.{deepest_level, most_bodies, weight_limit, speed_limit};
+ghost use Rattle.nb_model.specs.Limits.{deepest_level, most_bodies, gm_limit, speed_limit};
 ghost use Rattle.nb_model.specs.Vector.{plus};
 ghost use Rattle.nb_model.specs.Octree.{total_mass};
 ghost use Rattle.nb_model.specs.Gravity.{direct_sum, force_on};
@@ -34,7 +34,7 @@ fn direct_sum(params: &Params, from: &At, bodies: &[Body]) -> V3
     requires params { AreInRange params.now }
     requires from { IsInBox from.now }
     requires each { All IsValidBody bodies.now }
-    requires weight { params.now.grav * total_mass bodies.now < weight_limit }
+    requires gm { params.now.grav * total_mass bodies.now < gm_limit }
     ensures { result ≡ direct_sum params.now from.now bodies.now }
 {
     let mut total = ZERO;
@@ -57,7 +57,7 @@ pub fn force_on(
     requires level { level ≤ deepest_level }
     requires each { All IsValidBody bodies.now }
     requires count { length bodies.now ≤ most_bodies }
-    requires weight { params.now.grav * total_mass bodies.now < weight_limit }
+    requires gm { params.now.grav * total_mass bodies.now < gm_limit }
     ensures { IfOk result (λ force. force ≡ force_on params.now from.now level bodies.now) }
 {
     if bodies.is_empty() {

@@ -5,7 +5,7 @@ use Rattle.std.specs.Option.{option_map_or}
 use Rattle.std.specs.Str.{bytes_eq}
 use Rattle.std.specs.Fmt.{decimal}
 use Rattle.nb_model.specs.declared.params.Params.{Params}
-use Rattle.nb_model.specs.Limits.{box_side, weight_limit, most_ticks}
+use Rattle.nb_model.specs.Limits.{box_side, gm_limit, most_ticks}
 use Rattle.nb_format.specs.declared.params_error.ParamsError.{ParamsError}
 use Rattle.nb_format.specs.declared.params_error.ParamsError.TheVariants as refused
 use Rattle.nb_format.specs.declared.params_line.Line.{Line}
@@ -25,7 +25,7 @@ pub record Parameter : Type 0 where
 -- the six parameters. The number of each is its place, from 0 on.
 abbrev pub parameters : List Parameter
 parameters =
-    record { name = codes "grav"; least = 0; greatest = weight_limit - 1 }
+    record { name = codes "grav"; least = 0; greatest = gm_limit - 1 }
     ∷ record { name = codes "theta_num"; least = 0; greatest = 32768 }
     ∷ record { name = codes "theta_den"; least = 1; greatest = 32768 }
     ∷ record { name = codes "soft"; least = 1; greatest = box_side - 1 }

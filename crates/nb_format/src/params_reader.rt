@@ -8,7 +8,7 @@ ghost use Rattle.nb_format.specs.ParamsReading.{lines_from, SetsParameter};
 
 use crate::ParamsError;
 use crate::params_line::{Line, find, read_line};
-use nb_model::{BOX_SIDE, MOST_TICKS, Params, WEIGHT_LIMIT};
+use nb_model::{BOX_SIDE, GM_LIMIT, MOST_TICKS, Params};
 
 /// The most bytes of a parameter text.
 pub const MOST_TEXT: usize = 65536;
@@ -45,7 +45,7 @@ fn range_of(which: u8) -> (u64, u64)
     ensures { (value : ℕ) → is_in_range which value ≡ (nat_le result.0 value && nat_le value result.1) }
 {
     match which {
-        0 => (0, WEIGHT_LIMIT - 1),
+        0 => (0, GM_LIMIT - 1),
         1 => (0, MOST_THETA),
         2 => (1, MOST_THETA),
         3 => (1, BOX_SIDE - 1),

@@ -8,7 +8,7 @@ use Rattle.nb_model.specs.declared.body.At.{At}
 use Rattle.nb_model.specs.declared.body.V3.{V3}
 use Rattle.nb_model.specs.declared.body.Body.{Body}
 use Rattle.nb_model.specs.declared.params.Params.{Params}
-use Rattle.nb_model.specs.Limits.{deepest_level, weight_limit, speed_limit}
+use Rattle.nb_model.specs.Limits.{deepest_level, gm_limit, speed_limit}
 use Rattle.nb_model.specs.Valid.{IsBelow}
 use Rattle.nb_model.specs.Vector.{vector_sum}
 use Rattle.nb_model.specs.Octree.{in_octant, total_mass, centre_of_mass}
@@ -47,25 +47,25 @@ force_on_bound params p level bodies = force_to_depth_bound params p (deepest_le
 
 -- ---- what a body's speed may gain, and each sum on the way to it: two of these fit an i64
 
-pub pull_below : (params : Params) (p : At) (mass : ℕ) (c : At) → params.grav * mass < weight_limit → IsBelow (2 * speed_limit) (pull params p mass c)
-pull_below params p mass c weight =
+pub pull_below : (params : Params) (p : At) (mass : ℕ) (c : At) → params.grav * mass < gm_limit → IsBelow (2 * speed_limit) (pull params p mass c)
+pull_below params p mass c gm =
     IsBelow-from_most (params.grav * mass) (2 * speed_limit) (pull params p mass c) (omega arith) (pull_bound params p mass c)
 
-pub direct_sum-take_below : (params : Params) (p : At) (bodies : List Body) (i : ℕ) → params.grav * total_mass bodies < weight_limit → IsBelow (2 * speed_limit) (direct_sum params p (take i bodies))
-direct_sum-take_below params p bodies i weight =
+pub direct_sum-take_below : (params : Params) (p : At) (bodies : List Body) (i : ℕ) → params.grav * total_mass bodies < gm_limit → IsBelow (2 * speed_limit) (direct_sum params p (take i bodies))
+direct_sum-take_below params p bodies i gm =
     let less : params.grav * total_mass (take i bodies) ≤ params.grav * total_mass bodies = mul-le-mul_left params.grav (sum_by-take-le (λ b. b.mass) bodies i) in
     IsBelow-from_most (params.grav * total_mass (take i bodies)) (2 * speed_limit) (direct_sum params p (take i bodies)) (omega arith) (direct_sum_bound params p (take i bodies))
 
-pub force_on_below : (params : Params) (p : At) (level : ℕ) (bodies : List Body) → params.grav * total_mass bodies < weight_limit → IsBelow (2 * speed_limit) (force_on params p level bodies)
-force_on_below params p level bodies weight =
+pub force_on_below : (params : Params) (p : At) (level : ℕ) (bodies : List Body) → params.grav * total_mass bodies < gm_limit → IsBelow (2 * speed_limit) (force_on params p level bodies)
+force_on_below params p level bodies gm =
     IsBelow-from_most (params.grav * total_mass bodies) (2 * speed_limit) (force_on params p level bodies) (omega arith) (force_on_bound params p level bodies)
 
-pub weight-in_octant : (grav level : ℕ) (bodies : List Body) (octant : ℕ) → grav * total_mass bodies < weight_limit → grav * total_mass (in_octant level bodies octant) < weight_limit
-weight-in_octant grav level bodies octant weight =
+pub gm-in_octant : (grav level : ℕ) (bodies : List Body) (octant : ℕ) → grav * total_mass bodies < gm_limit → grav * total_mass (in_octant level bodies octant) < gm_limit
+gm-in_octant grav level bodies octant gm =
     omega (arith, mul-le-mul_left grav (total_mass-in_octant-le level bodies octant))
 
-pub octant_forces-take_below : (params : Params) (p : At) (level : ℕ) (bodies : List Body) (i : ℕ) → params.grav * total_mass bodies < weight_limit → IsBelow (2 * speed_limit) (vector_sum (map (λ octant. force_on params p (level + 1) (in_octant level bodies octant)) (take i octants)))
-octant_forces-take_below params p level bodies i weight =
+pub octant_forces-take_below : (params : Params) (p : At) (level : ℕ) (bodies : List Body) (i : ℕ) → params.grav * total_mass bodies < gm_limit → IsBelow (2 * speed_limit) (vector_sum (map (λ octant. force_on params p (level + 1) (in_octant level bodies octant)) (take i octants)))
+octant_forces-take_below params p level bodies i gm =
     let force = λ (octant : ℕ). force_on params p (level + 1) (in_octant level bodies octant) in
     let share = λ (octant : ℕ). params.grav * total_mass (in_octant level bodies octant) in
     let each = vector_sum_bound force share (λ octant. force_on_bound params p (level + 1) (in_octant level bodies octant)) (take i octants) in

@@ -17,7 +17,7 @@ square_y-le params p c = omega arith
 pub square_z-le : (params : Params) (p c : At) → square (displacement p c).z ≤ softened_square params p c
 square_z-le params p c = omega arith
 
--- a pull is at most the weight, in size, on each axis
+-- a pull is at most the gm, in size, on each axis
 pub pull_bound : (params : Params) (p : At) (mass : ℕ) (c : At) → IsAtMost (params.grav * mass) (pull params p mass c)
 pull_bound params p mass c =
     let q = softened_square params p c in
@@ -28,7 +28,7 @@ pull_bound params p mass c =
       z = pull_along_bound (params.grav * mass) q d.z (square_z-le params p c);
     }
 
--- and none where the softened square is above the weight
+-- and none where the softened square is above the gm
 pub pull_too_far : (params : Params) (p : At) (mass : ℕ) (c : At) → params.grav * mass < softened_square params p c → pull params p mass c ≡ zero_vector
 pull_too_far params p mass c far =
     let q = softened_square params p c in

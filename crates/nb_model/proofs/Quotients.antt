@@ -62,7 +62,7 @@ pull_along_bound w q (negsuc n) low =
     let bound = quotient_bound w q (suc n) low in
     omega arith
 
--- where q is above the weight a pull is 0 on each axis
+-- where q is above the gm a pull is 0 on each axis
 pub quotient_too_far : (w q n : ℕ) → n * n ≤ q → w < q → w * n / (q * integer_root q) ≡ 0
 quotient_too_far w q zero low far = omega arith
 quotient_too_far w q (suc n) low far =
@@ -79,9 +79,9 @@ pull_along_too_far w q (pos n) low far = ap pos (quotient_too_far w q n low far)
 pull_along_too_far w q (negsuc n) low far =
     pull_along-neg w q (suc n) ∙ ap (λ k. neg_ℤ (pos k)) (quotient_too_far w q (suc n) low far)
 
--- ---- a pull's quotient by one division of numbers below the weight
+-- ---- a pull's quotient by one division of numbers below the gm
 
--- With weight ≡ k * q + m and k * d ≡ c * s + e, the dividend weight * d is c times the divisor q * s, and e * q + m * d.
+-- With gm ≡ k * q + m and k * d ≡ c * s + e, the dividend gm * d is c times the divisor q * s, and e * q + m * d.
 dividend_split : (q s d k m c e : ℕ) → k * d ≡ c * s + e → (k * q + m) * d ≡ c * (q * s) + (e * q + m * d)
 dividend_split q s d k m c e scaled = let h = ap (λ x. x * q) scaled in omega arith
 

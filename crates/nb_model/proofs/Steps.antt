@@ -12,7 +12,7 @@ use Rattle.nb_model.specs.declared.body.Body.{Body}
 use Rattle.nb_model.specs.declared.params.Params.{Params}
 use Rattle.nb_model.specs.declared.way.Way.{Way}
 use Rattle.nb_model.specs.declared.way.Way.TheVariants.{Forward, Back}
-use Rattle.nb_model.specs.Limits.{box_side, mass_limit, weight_limit, speed_limit}
+use Rattle.nb_model.specs.Limits.{box_side, mass_limit, gm_limit, speed_limit}
 use Rattle.nb_model.specs.Vector.{zero_vector}
 use Rattle.nb_model.specs.Octree.{total_mass}
 use Rattle.nb_model.specs.Gravity.{force_on}
@@ -30,8 +30,8 @@ total_mass-in_box-le bodies = sum_by-filter-le (λ b. b.mass) (λ b. not b.out) 
 pub length-in_box-le : (bodies : List Body) → length (in_box bodies) ≤ length bodies
 length-in_box-le bodies = length-filter-le (λ b. not b.out) bodies
 
-pub weight-in_box : (grav : ℕ) (bodies : List Body) → grav * total_mass bodies < weight_limit → grav * total_mass (in_box bodies) < weight_limit
-weight-in_box grav bodies weight = omega (arith, mul-le-mul_left grav (total_mass-in_box-le bodies))
+pub gm-in_box : (grav : ℕ) (bodies : List Body) → grav * total_mass bodies < gm_limit → grav * total_mass (in_box bodies) < gm_limit
+gm-in_box grav bodies gm = omega (arith, mul-le-mul_left grav (total_mass-in_box-le bodies))
 
 -- a half kick is at most the constant of gravity times the mass of all bodies
 pub half_kick_bound : (params : Params) (bodies : List Body) (b : Body) → IsAtMost (params.grav * total_mass bodies) (half_kick params bodies b)
@@ -103,20 +103,20 @@ IsBelow-changed way m n most v k le p q = record {
   z = changed_along-below way v.z k.z m n most le p.z q.z;
 }
 
-pub kicked_body : (way : Way) (b : Body) (k : V3) → IsValidBody b → IsAtMost weight_limit k → IsKickedBody (accelerate way k b)
+pub kicked_body : (way : Way) (b : Body) (k : V3) → IsValidBody b → IsAtMost gm_limit k → IsKickedBody (accelerate way k b)
 kicked_body way b k valid small = record {
   some_mass = valid.some_mass;
   mass = valid.mass;
   at = valid.at;
-  speed = λ inside. IsBelow-changed way speed_limit weight_limit (2 * speed_limit) b.v k (omega arith) (valid.speed inside) small;
+  speed = λ inside. IsBelow-changed way speed_limit gm_limit (2 * speed_limit) b.v k (omega arith) (valid.speed inside) small;
 }
 
-pub kicked_again_body : (way : Way) (b : Body) (k : V3) → IsDriftedBody b → IsAtMost weight_limit k → IsValidBody (accelerate way k b)
+pub kicked_again_body : (way : Way) (b : Body) (k : V3) → IsDriftedBody b → IsAtMost gm_limit k → IsValidBody (accelerate way k b)
 kicked_again_body way b k drifted small = record {
   some_mass = drifted.some_mass;
   mass = drifted.mass;
   at = drifted.at;
-  speed = λ inside. IsBelow-changed way box_side weight_limit speed_limit b.v k (omega arith) (drifted.speed inside) small;
+  speed = λ inside. IsBelow-changed way box_side gm_limit speed_limit b.v k (omega arith) (drifted.speed inside) small;
 }
 
 pub coordinate_from : (c : ℤ) → is_coordinate c ≡ true → (n : ℕ) × (c ≡ pos n) × (n < box_side)
@@ -160,13 +160,13 @@ IsValidBody-drifted b drifted = record {
 
 -- ---- the lists of a tick
 
-kick_small : (params : Params) (bodies : List Body) → params.grav * total_mass bodies < weight_limit → (b : Body) → IsAtMost weight_limit (half_kick params bodies b)
-kick_small params bodies weight b =
-    IsAtMost-more (params.grav * total_mass bodies) weight_limit (half_kick params bodies b) (omega arith) (half_kick_bound params bodies b)
+kick_small : (params : Params) (bodies : List Body) → params.grav * total_mass bodies < gm_limit → (b : Body) → IsAtMost gm_limit (half_kick params bodies b)
+kick_small params bodies gm b =
+    IsAtMost-more (params.grav * total_mass bodies) gm_limit (half_kick params bodies b) (omega arith) (half_kick_bound params bodies b)
 
 pub All-kick : (params : Params) (way : Way) (bodies : List Body) → IsValidBodies params bodies → All IsKickedBody (kick params way bodies)
 All-kick params way bodies valid =
-    All-map IsKickedBody (λ b. accelerate way (half_kick params bodies b) b) bodies (All-weaker IsValidBody (λ b. IsKickedBody (accelerate way (half_kick params bodies b) b)) (λ b ok. kicked_body way b (half_kick params bodies b) ok (kick_small params bodies valid.weight b)) bodies valid.each)
+    All-map IsKickedBody (λ b. accelerate way (half_kick params bodies b) b) bodies (All-weaker IsValidBody (λ b. IsKickedBody (accelerate way (half_kick params bodies b) b)) (λ b ok. kicked_body way b (half_kick params bodies b) ok (kick_small params bodies valid.gm b)) bodies valid.each)
 
 pub All-drift : (way : Way) (bodies : List Body) → All IsKickedBody bodies → All IsDriftedBody (drift way bodies)
 All-drift way bodies kicked =
@@ -180,7 +180,7 @@ drift-kick_valid params way bodies valid =
       each = All-weaker IsDriftedBody IsValidBody IsValidBody-drifted (drift way kicked) (All-drift way kicked (All-kick params way bodies valid));
       ids = rw (ids-drift way kicked, ids-kick params way bodies) valid.ids;
       count = omega (arith, length-drift way kicked, length-kick params way bodies, valid.count);
-      weight = rw (total_mass-drift way kicked, total_mass-kick params way bodies) valid.weight;
+      gm = rw (total_mass-drift way kicked, total_mass-kick params way bodies) valid.gm;
     }
 
 pub step_valid : (params : Params) (way : Way) (bodies : List Body) → IsValidBodies params bodies → IsValidBodies params (step params way bodies)
@@ -189,8 +189,8 @@ step_valid params way bodies valid =
     let between = drift-kick_valid params way bodies valid in
     let each = All-drift way (kick params way bodies) (All-kick params way bodies valid) in
     record {
-      each = All-map IsValidBody (λ b. accelerate way (half_kick params drifted b) b) drifted (All-weaker IsDriftedBody (λ b. IsValidBody (accelerate way (half_kick params drifted b) b)) (λ b ok. kicked_again_body way b (half_kick params drifted b) ok (kick_small params drifted between.weight b)) drifted each);
+      each = All-map IsValidBody (λ b. accelerate way (half_kick params drifted b) b) drifted (All-weaker IsDriftedBody (λ b. IsValidBody (accelerate way (half_kick params drifted b) b)) (λ b ok. kicked_again_body way b (half_kick params drifted b) ok (kick_small params drifted between.gm b)) drifted each);
       ids = rw (ids-kick params way drifted) between.ids;
       count = omega (arith, length-kick params way drifted, between.count);
-      weight = rw (total_mass-kick params way drifted) between.weight;
+      gm = rw (total_mass-kick params way drifted) between.gm;
     }

@@ -14,10 +14,10 @@ use Rattle.nb_model.specs.Octree.{cell_side, in_octant, is_same_cell, total_mass
 abbrev pub softened_square : Params → At → At → ℕ
 softened_square params p c = norm_squared (displacement p c) + params.soft * params.soft
 
--- One axis of a half kick: weight * d / (q * root of q), rounded toward zero, where weight is the constant of gravity
+-- One axis of a half kick: gm * d / (q * root of q), rounded toward zero, where gm is the constant of gravity
 -- times the mass that pulls, and q the softened square.
 abbrev pub pull_along : ℕ → ℕ → ℤ → ℤ
-pull_along weight q d = int_div (pos weight *ℤ d) (pos (q * integer_root q))
+pull_along gm q d = int_div (pos gm *ℤ d) (pos (q * integer_root q))
 
 -- the half kick that a mass at c gives to a body at p: a softened monopole
 abbrev pub pull : Params → At → ℕ → At → V3

@@ -14,9 +14,13 @@ deepest_level = 21
 abbrev pub mass_limit : ℕ
 mass_limit = 2 ^ 32
 
--- The constant of gravity times the mass of all bodies is below this. So is a half kick on each axis, and the constant.
-abbrev pub weight_limit : ℕ
-weight_limit = 2 ^ 60
+-- The constant of gravity times the mass of all bodies is below this. So is the constant.
+abbrev pub gm_limit : ℕ
+gm_limit = 2 ^ 60
+
+-- A half kick is below this on each axis, in box units a tick.
+abbrev pub kick_limit : ℕ
+kick_limit = 2 ^ 60
 
 -- The speed of a body in the box is below this on each axis before and after each tick, in box units a tick.
 abbrev pub speed_limit : ℕ

@@ -5,12 +5,12 @@ use Rattle.nb_model.specs.declared.body.At.{At}
 use Rattle.nb_model.specs.declared.body.V3.{V3}
 use Rattle.nb_model.specs.declared.body.Body.{Body}
 use Rattle.nb_model.specs.declared.params.Params.{Params}
-use Rattle.nb_model.specs.Limits.{box_side, mass_limit, weight_limit, speed_limit, most_bodies, most_ticks}
+use Rattle.nb_model.specs.Limits.{box_side, mass_limit, gm_limit, speed_limit, most_bodies, most_ticks}
 use Rattle.nb_model.specs.Octree.{total_mass}
 
 -- the range of each parameter
 pub record AreInRange (params : Params) : Type 0 where
-  pub grav : params.grav < weight_limit
+  pub grav : params.grav < gm_limit
   pub theta_num : params.theta_num ≤ 32768
   pub some_theta_den : 1 ≤ params.theta_den
   pub theta_den : params.theta_den ≤ 32768
@@ -50,4 +50,4 @@ pub record IsValidBodies (params : Params) (bodies : List Body) : Type 0 where
   pub each : All IsValidBody bodies
   pub ids : IsStrictlyIncreasing (map (λ b. b.id) bodies)
   pub count : length bodies ≤ most_bodies
-  pub weight : params.grav * total_mass bodies < weight_limit
+  pub gm : params.grav * total_mass bodies < gm_limit

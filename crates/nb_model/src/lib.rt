@@ -15,7 +15,7 @@ mod way;
 pub use body::{At, Body, V3};
 pub use laws::{law_back, law_force_on, law_integer_root, law_step};
 pub use limits::{
-    BOX_BITS, BOX_SIDE, DEEPEST_LEVEL, MOST_BODIES, MOST_TICKS, SPEED_LIMIT, WEIGHT_LIMIT,
+    BOX_BITS, BOX_SIDE, DEEPEST_LEVEL, GM_LIMIT, KICK_LIMIT, MOST_BODIES, MOST_TICKS, SPEED_LIMIT,
 };
 pub use memory::NoMemory;
 pub use params::Params;

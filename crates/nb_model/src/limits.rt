@@ -10,7 +10,10 @@ pub const BOX_SIDE: u64 = 1 << BOX_BITS;
 pub const DEEPEST_LEVEL: u32 = 21;
 
 /// The constant of gravity times the mass of all bodies is below this.
-pub const WEIGHT_LIMIT: u64 = 1 << 60;
+pub const GM_LIMIT: u64 = 1 << 60;
+
+/// A half kick is below this on each axis, in box units a tick.
+pub const KICK_LIMIT: u64 = 1 << 60;
 
 /// The speed of a body in the box is below this on each axis, in box units a tick.
 pub const SPEED_LIMIT: u64 = 1 << 61;

@@ -2,7 +2,7 @@
 use Rattle.std.specs.Prelude.{◌≡◌, ◌⊎◌, ℕ, ◌+◌, ◌-◌, ◌*◌, nat_le, nat_lt, if◌then◌else◌, Option, None, Some, Ok, Err, List, length}
 use Rattle.nb_model.specs.declared.body.Body.{Body}
 use Rattle.nb_model.specs.declared.params.Params.{Params}
-use Rattle.nb_model.specs.Limits.{weight_limit, most_ticks}
+use Rattle.nb_model.specs.Limits.{gm_limit, most_ticks}
 use Rattle.nb_model.specs.Octree.{total_mass}
 use Rattle.nb_model.specs.Leapfrog.{steps}
 use Rattle.nb_model.specs.Legs.{directions_to}
@@ -53,7 +53,7 @@ list_at target start = steps start.params (directions_to start.time target) star
 abbrev pub start_refusal : ℕ → Start → Option Refusal
 start_refusal target start =
     if nat_lt most_once_bodies (length start.bodies) then Some (refusal.TooMany (length start.bodies))
-    else (if nat_le weight_limit (start.params.grav * total_mass start.bodies) then Some (refusal.TooHeavy start.params.grav (total_mass start.bodies))
+    else (if nat_le gm_limit (start.params.grav * total_mass start.bodies) then Some (refusal.TooHeavy start.params.grav (total_mass start.bodies))
     else (if nat_lt most_ticks (ticks_to target start) then Some (refusal.TickLimit (ticks_to target start))
     else None))
 

@@ -20,7 +20,7 @@ use crate::refusal::Refusal;
 use nb_fixed::plain_tick;
 use nb_format::{Fresh, SnapReader};
 use nb_host::{Host, HostError};
-use nb_model::{Body, MOST_TICKS, NoMemory, Params, WEIGHT_LIMIT, Way};
+use nb_model::{Body, GM_LIMIT, MOST_TICKS, NoMemory, Params, Way};
 use std::alloc::Global;
 
 /// The file that `once` writes.
@@ -105,7 +105,7 @@ fn start_refusal(params: &Params, bodies: &[Body], time: u64, target: u64) -> Op
         (record { params = params.now; bodies = bodies.now; time = time }) }
 {
     let mass = total_mass(bodies);
-    if u128::from(params.grav) * u128::from(mass) >= u128::from(WEIGHT_LIMIT) {
+    if u128::from(params.grav) * u128::from(mass) >= u128::from(GM_LIMIT) {
         return Some(Refusal::TooHeavy(params.grav, mass));
     }
     let ticks = time.abs_diff(target);

@@ -2,7 +2,7 @@ use Rattle.std.proofs.Common.{◌≡◌, ◌∙◌, arith, not}
 use Rattle.std.proofs.lemmas.List.Elements.{All-same, All-filter}
 use Rattle.nb_model.specs.Leapfrog.{in_box}
 use Rattle.nb_model.specs.Valid.{IsValidBody}
-use Rattle.nb_model.proofs.Steps.{length-in_box-le, weight-in_box}
+use Rattle.nb_model.proofs.Steps.{length-in_box-le, gm-in_box}
 use Rattle.nb_fixed.proofs.leapfrog.kick.Goals as goal
 
 pub kicked_body-requires-clause-each : goal.kicked_body-requires-clause-each
@@ -15,7 +15,7 @@ kicked_body-requires-clause-count c =
     let e : c.deref.result.now ≡ in_box c.args.bodies.now = c.deref.ensures.value ∙ c.in_ok-inside.ensures in
     rw e (omega (arith, length-in_box-le c.args.bodies.now, c.requires.valid.count))
 
-pub kicked_body-requires-clause-weight : goal.kicked_body-requires-clause-weight
-kicked_body-requires-clause-weight c =
+pub kicked_body-requires-clause-gm : goal.kicked_body-requires-clause-gm
+kicked_body-requires-clause-gm c =
     let e : c.deref.result.now ≡ in_box c.args.bodies.now = c.deref.ensures.value ∙ c.in_ok-inside.ensures in
-    rw e (weight-in_box c.args.params.now.grav c.args.bodies.now c.requires.valid.weight)
+    rw e (gm-in_box c.args.params.now.grav c.args.bodies.now c.requires.valid.gm)

@@ -1,5 +1,5 @@
 use Rattle.std.proofs.Common.{◌≡◌, ◌+◌, ◌-◌, ◌*◌, ◌/◌, ◌%◌, ◌<◌, ◌≤◌, sym, ap, ◌∙◌, arith}
-use Rattle.nb_model.specs.Limits.{weight_limit}
+use Rattle.nb_model.specs.Limits.{gm_limit}
 use Rattle.nb_model.proofs.Roots.{le-integer_root}
 use Rattle.nb_model.proofs.Quotients.{pull_size-floor, pull_size-next, quotient_bound}
 use Rattle.nb_fixed.proofs.monopole.size_along.Goals.{Then-missing-made_up, Else-missing-made_up}
@@ -27,12 +27,12 @@ floor c =
     let short : s.rest * d < (s.root - s.whole * d % s.root) * s.square = rw (← over) c.if-missing-made_up.false in
     c.over_root-floor.ensures.floor ∙ sym (pull_size-floor s.square s.root d s.whole s.rest s.some_square s.root_of_square short)
 
-next_bound : (c : Then-missing-made_up) → c.over_root-floor.result.floor + 1 < weight_limit
+next_bound : (c : Then-missing-made_up) → c.over_root-floor.result.floor + 1 < gm_limit
 next_bound c =
     let s = c.args.scale.now in
     let value = next c in
     let bound : (s.whole * s.square + s.rest) * c.args.distance / (s.square * s.root) ≤ s.whole * s.square + s.rest = rw s.root_of_square (quotient_bound (s.whole * s.square + s.rest) s.square c.args.distance c.requires) in
-    omega (arith, s.weight)
+    omega (arith, s.gm)
 
 pub overflow_add-result : goal.overflow_add-result
 overflow_add-result c = omega (arith, next_bound c)
@@ -51,4 +51,4 @@ returns-else-missing-made_up-clause-bound c =
     let s = c.args.scale.now in
     let value = floor c in
     let bound : (s.whole * s.square + s.rest) * c.args.distance / (s.square * s.root) ≤ s.whole * s.square + s.rest = rw s.root_of_square (quotient_bound (s.whole * s.square + s.rest) s.square c.args.distance c.requires) in
-    omega (arith, s.weight)
+    omega (arith, s.gm)

@@ -8,7 +8,7 @@ use Rattle.nb_model.specs.Octree.{octant_at, in_octant, total_mass, centre_of_ma
 use Rattle.nb_model.specs.Gravity.{force_on, pull}
 use Rattle.nb_model.specs.Valid.{IsValidBody}
 use Rattle.nb_model.proofs.Octants.{length-in_octant-le}
-use Rattle.nb_model.proofs.Forces.{force_on_below, weight-in_octant, octant_forces-take_below}
+use Rattle.nb_model.proofs.Forces.{force_on_below, gm-in_octant, octant_forces-take_below}
 use Rattle.nb_model.proofs.Cells.{force_on-nil, force_on-accepted, force_on-deepest_leaf, force_on-small_leaf, force_on-divided, is_accepted-opens, octant_forces_more, octant_forces_all}
 use Rattle.nb_fixed.proofs.OneOctant.{octant_forces-one}
 use Rattle.nb_fixed.proofs.recursion.+force_on.Goals as goal
@@ -65,17 +65,17 @@ pub force_on-requires : goal.force_on-requires
 force_on-requires t c =
     let bodies = c.args.bodies.now in
     let part : c.deref-in-loop-octant.result.now ≡ in_octant c.down.level bodies c.loop-octant.octant = c.deref-in-loop-octant.ensures.value ∙ c.in_ok-part.ensures c.down.level (c.deref.ensures.value ∙ c.in_ok-octants.ensures) in
-    (omega arith, (c.requires.params, (c.requires.from, (omega arith, (All-same IsValidBody c.deref-in-loop-octant.result.now (in_octant c.down.level bodies c.loop-octant.octant) part (All-filter (λ b. octant_at c.down.level b.at == c.loop-octant.octant) IsValidBody bodies c.requires.each), (rw part (omega (arith, length-in_octant-le c.down.level bodies c.loop-octant.octant, c.requires.count)), rw part (weight-in_octant c.args.params.now.grav c.down.level bodies c.loop-octant.octant c.requires.weight)))))))
+    (omega arith, (c.requires.params, (c.requires.from, (omega arith, (All-same IsValidBody c.deref-in-loop-octant.result.now (in_octant c.down.level bodies c.loop-octant.octant) part (All-filter (λ b. octant_at c.down.level b.at == c.loop-octant.octant) IsValidBody bodies c.requires.each), (rw part (omega (arith, length-in_octant-le c.down.level bodies c.loop-octant.octant, c.requires.count)), rw part (gm-in_octant c.args.params.now.grav c.down.level bodies c.loop-octant.octant c.requires.gm)))))))
 
 pub plus-total-requires-clause-first : goal.plus-total-requires-clause-first
 plus-total-requires-clause-first t c =
-    rw c.loop-octant.invariant (octant_forces-take_below c.args.params.now c.args.from.now c.down.level c.args.bodies.now c.loop-octant.octant c.requires.weight)
+    rw c.loop-octant.invariant (octant_forces-take_below c.args.params.now c.args.from.now c.down.level c.args.bodies.now c.loop-octant.octant c.requires.gm)
 
 pub plus-total-requires-clause-second : goal.plus-total-requires-clause-second
 plus-total-requires-clause-second t c =
     let bodies = c.args.bodies.now in
     let part : c.deref-in-loop-octant.result.now ≡ in_octant c.down.level bodies c.loop-octant.octant = c.deref-in-loop-octant.ensures.value ∙ c.in_ok-part.ensures c.down.level (c.deref.ensures.value ∙ c.in_ok-octants.ensures) in
-    rw (c.in_ok-force_on.ensures, part) (force_on_below c.args.params.now c.args.from.now (c.down.level + 1) (in_octant c.down.level bodies c.loop-octant.octant) (weight-in_octant c.args.params.now.grav c.down.level bodies c.loop-octant.octant c.requires.weight))
+    rw (c.in_ok-force_on.ensures, part) (force_on_below c.args.params.now c.args.from.now (c.down.level + 1) (in_octant c.down.level bodies c.loop-octant.octant) (gm-in_octant c.args.params.now.grav c.down.level bodies c.loop-octant.octant c.requires.gm))
 
 pub loop-octant-preserved : goal.loop-octant-preserved
 loop-octant-preserved t c =
