@@ -37,7 +37,7 @@ pub use laws::{
 pub use lender::Lender;
 pub use order_laws::{law_in_cell, law_octant_sums, law_order};
 pub use search_page::look;
-pub use sizes::{BODIES_PER_PAGE, BODY_SIZE, CELL_SIZE, CELLS_PER_PAGE, HEADER_SIZE, PAGE_SIZE};
+pub use sizes::{BODIES_PER_PAGE, BODY_SIZE, CELL_SIZE, CELLS_PER_PAGE, HEADER_SIZE, KICK_AT};
 pub use tree::Tree;
 pub use tree_laws::{
     law_cell_bodies, law_kicked_tree, law_kid_bits, law_same_table, law_same_tree, law_tree_cells,
