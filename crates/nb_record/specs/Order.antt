@@ -71,9 +71,9 @@ pub record HoldsKickedBodies (file : List ℕ) (kick : Body → V3) (list : List
   pub bodies : HoldsBodies file list
   pub kicks : (j : ℕ) (b : Body) → slice_get list j ≡ Some b → kick_of (record_of file j) ≡ kick b
 
--- The file holds so many bodies, in Morton order.
-pub record HoldsMortonOrder (file : List ℕ) (count : ℕ) : Type 0 where
+-- The file holds n bodies, in Morton order.
+pub record HoldsMortonOrder (file : List ℕ) (n : ℕ) : Type 0 where
   pub list : List Body
   pub bodies : HoldsBodies file list
-  pub count_of : length list ≡ count
+  pub count : length list ≡ n
   pub sorted : IsSortedByRank by_key list

@@ -1,5 +1,5 @@
 -- What the writers leave of a page.
-use Rattle.std.specs.Prelude.{◌≡◌, ℕ, ◌+◌, ◌-◌, ◌*◌, List, drop, replicate}
+use Rattle.std.specs.Prelude.{◌≡◌, ℕ, ◌+◌, ◌-◌, ◌*◌, ◌<◌, List, drop, replicate, All}
 use Rattle.nb_host.specs.declared.page_name.TheConstants.{PAGE_SIZE}
 use Rattle.nb_record.specs.declared.sizes.TheConstants.{HEADER_SIZE}
 use Rattle.nb_host.specs.Page.{page_of, HasPage}
@@ -30,3 +30,7 @@ IsZeroPadded size bytes = drop (records_end size bytes) bytes ≡ replicate (PAG
 -- each page of a file, with records of this size, is
 abbrev pub IsZeroPaddedFile : ℕ → List ℕ → Type 0
 IsZeroPaddedFile size file = (p : ℕ) → HasPage file p → IsZeroPadded size (page_of file p)
+
+-- each number of a list is a byte
+abbrev pub AreBytes : List ℕ → Type 0
+AreBytes bytes = All (λ byte. byte < 256) bytes

@@ -32,7 +32,7 @@ pub use force_laws::{law_cell_force, law_same_force, law_same_step, law_vector_s
 pub use header::PageError;
 pub use laws::{
     law_bodies, law_body_files, law_cells, law_chains, law_checks, law_kids, law_lookups,
-    law_page_bodies, law_page_cells, law_sizes, law_sorted_by,
+    law_morton_order, law_page_bodies, law_page_cells, law_sizes, law_sorted_by, law_zero_padded,
 };
 pub use lender::Lender;
 pub use order_laws::{law_in_cell, law_octant_sums, law_order};
