@@ -1,6 +1,6 @@
 -- A list in Morton order is its own sorted list, with the bodies in the box in front.
-use Rattle.std.proofs.Common.{◌≡◌, ℕ, ◌<◌, List, length, take, get_or, Some, sym, ap, subst, ◌∙◌}
-use Rattle.std.specs.Prelude.{All, slice_get, IsPermutation}
+use Rattle.std.proofs.Common.{◌≡◌, ℕ, List, length, take, sym, ap, subst, ◌∙◌}
+use Rattle.std.specs.Prelude.{All}
 use Rattle.std.proofs.lemmas.List.Sorted.{IsPermutation-refl}
 use Rattle.std.proofs.lemmas.Option.{get_or_from_slice_get}
 use Rattle.nb_model.specs.declared.body.Body.{Body}

@@ -1,7 +1,7 @@
 -- A page is a function of its records, and a file of bodies of its list, where the bytes behind the last record are zeros.
-use Rattle.std.proofs.Common.{◌≡◌, ℕ, zero, suc, ◌+◌, ◌-◌, ◌*◌, ◌/◌, ◌%◌, ◌^◌, ◌<◌, ◌≤◌, List, length, get_or, take, drop, eqb, ltb, sym, ap, subst, ◌∙◌, inl, inr, arith}
-use Rattle.std.specs.Prelude.{All, Some, slice_get, slice_index, replicate}
-use Rattle.std.specs.Int.{w64, cast_signed, cast_unsigned}
+use Rattle.std.proofs.Common.{◌≡◌, ℕ, zero, suc, ◌+◌, ◌-◌, ◌*◌, ◌/◌, ◌%◌, ◌^◌, ◌<◌, ◌≤◌, List, length, get_or, drop, eqb, sym, ap, subst, ◌∙◌, inl, inr, arith}
+use Rattle.std.specs.Prelude.{slice_get, replicate}
+use Rattle.std.specs.Int.{w64, cast_unsigned}
 use Rattle.std.proofs.Math.Nat.{div-add-mod, mod-lt, div-lt_iff_lt-mul, mul_comm}
 use Rattle.std.proofs.lemmas.Bool.{cases_lt, cases_eq}
 use Rattle.std.proofs.lemmas.Bool.Decides.{nat_tests}
@@ -15,13 +15,13 @@ use Rattle.nb_model.specs.declared.body.V3.{V3}
 use Rattle.nb_model.specs.declared.body.Body.{Body}
 use Rattle.nb_record.specs.declared.cell.Cell.{Cell}
 use Rattle.nb_host.specs.declared.page_name.TheConstants.{PAGE_SIZE}
-use Rattle.nb_host.specs.Page.{page_start, page_of, HasPage}
+use Rattle.nb_host.specs.Page.{page_start, page_of}
 use Rattle.nb_record.specs.declared.sizes.TheConstants.{HEADER_SIZE, BODY_SIZE, CELL_SIZE, KICK_AT, BODIES_PER_PAGE}
 use Rattle.nb_record.specs.Fields.{word, short, signed_word}
-use Rattle.nb_record.specs.Pages.{page_number, page_count, page_next, IsCellPage, IsBodyPage}
+use Rattle.nb_record.specs.Pages.{page_number, page_count, page_next, IsCellPage}
 use Rattle.nb_record.specs.Records.{body_record, body_of, kick_of, IsBodyRecord, cell_record, cell_of, cells_of}
 use Rattle.nb_record.specs.Writing.{records_end, IsZeroPadded, IsZeroPaddedFile, AreBytes}
-use Rattle.nb_record.specs.Order.{pages_for, count_on, record_of, HoldsBodies, HoldsKickedBodies}
+use Rattle.nb_record.specs.Order.{pages_for, record_of, HoldsKickedBodies}
 use Rattle.nb_record.proofs.Lists.{length-cells_of, cell_at}
 
 -- ---- numbers and their bytes

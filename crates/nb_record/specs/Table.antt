@@ -1,6 +1,6 @@
 -- A table of cells in a file of pages (the hash of Warren and Salmon 1993): the low bits of a cell's key name the page at
 -- which the chain of pages begins that holds it.
-use Rattle.std.specs.Prelude.{◌≡◌, ◌≢◌, ℕ, zero, suc, ◌*◌, ◌%◌, ◌^◌, ◌<◌, ◌≤◌, ◌==◌, if◌then◌else◌, List, [], ◌∷◌, length, filter, All, IsPermutation}
+use Rattle.std.specs.Prelude.{◌≡◌, ◌≢◌, ℕ, zero, suc, ◌%◌, ◌^◌, ◌<◌, ◌≤◌, ◌==◌, if◌then◌else◌, List, [], ◌∷◌, length, filter, All, IsPermutation}
 use Rattle.std.specs.List.{flat_map}
 use Rattle.nb_record.specs.declared.cell.Cell.{Cell}
 use Rattle.nb_record.specs.Pages.{page_next, IsCellPage}
