@@ -1,9 +1,17 @@
 -- A file of bodies, as far as it is copied.
-use Rattle.std.proofs.Common.{◌≡◌, ℕ, ◌+◌, List, [], ◌∷◌, ◌++◌, length, Some, refl, sym, ap, subst, ◌∙◌, arith, append_assoc, length-append}
+use Rattle.std.proofs.Common.{◌≡◌, ℕ, ◌+◌, ◌<◌, List, [], ◌∷◌, ◌++◌, length, Some, inl, inr, refl, sym, ap, subst, ◌∙◌, arith, append_assoc, length-append}
 use Rattle.std.specs.Prelude.{slice_get}
+use Rattle.std.proofs.lemmas.Bool.{cases_lt}
+use Rattle.std.proofs.lemmas.Option.{same_Some, slice_get_within}
+use Rattle.nb_model.specs.declared.body.V3.{V3}
 use Rattle.nb_model.specs.declared.body.Body.{Body}
-use Rattle.nb_record.specs.Order.{HoldsBodies}
-use Rattle.nb_order.specs.Places.{AreNumbersOf}
+use Rattle.nb_record.specs.declared.sizes.TheConstants.{BODY_SIZE}
+use Rattle.nb_record.specs.Records.{kick_of}
+use Rattle.nb_record.specs.Writing.{IsZeroPaddedFile}
+use Rattle.nb_record.specs.Order.{record_of, HoldsBodies}
+use Rattle.nb_order.specs.Files.{IsPushed}
+use Rattle.nb_order.specs.Places.{AreNumbersOf, HasKicks}
+use Rattle.nb_order.proofs.Pushing.{pushed_before, pushed_here}
 
 -- an empty file holds no body
 pub holds_none : (file : List ℕ) → file ≡ [] → HoldsBodies file []
@@ -15,43 +23,56 @@ holds_none file is = subst (λ f. HoldsBodies f []) (sym is) (record {
   held = λ j below. absurd (omega arith);
 })
 
--- The file holds the first bodies of the list, so many, and these are the numbers of the others.
-pub record IsCopied (bodies list : List Body) (count : ℕ) (numbers : List ℕ) (file : List ℕ) : Type 0 where
+-- a list with its kicks, where the bodies have theirs in the other file
+abbrev pub KicksCome : List ℕ → List Body → List ℕ → List Body → Type 0
+KicksCome from bodies file copied = (kick : Body → V3) → HasKicks from kick bodies → HasKicks file kick copied
+
+-- The file holds the first bodies of the list, so many, with their kicks in the other file, and these are the numbers of
+-- the others.
+pub record IsCopied (from : List ℕ) (bodies list : List Body) (count : ℕ) (numbers : List ℕ) (file : List ℕ) : Type 0 where
   pub copied : List Body
   pub others : List Body
   pub all : list ≡ copied ++ others
   pub many : length copied ≡ count
   pub holds : HoldsBodies file copied
+  pub kicks : KicksCome from bodies file copied
+  pub padded : IsZeroPaddedFile BODY_SIZE file
   pub numbered : AreNumbersOf bodies numbers others
 
-pub copied_none : (bodies list : List Body) (numbers : List ℕ) (file : List ℕ) → file ≡ [] → AreNumbersOf bodies numbers list
-    → IsCopied bodies list 0 numbers file
-copied_none bodies list numbers file is numbered = record {
+pub copied_none : (from : List ℕ) (bodies list : List Body) (numbers : List ℕ) (file : List ℕ) → file ≡ [] → AreNumbersOf bodies numbers list
+    → IsCopied from bodies list 0 numbers file
+copied_none from bodies list numbers file is numbered = record {
   copied = [];
   others = list;
   all = refl;
   many = refl;
   holds = holds_none file is;
+  kicks = λ kick has j b at. absurd (none_at j b at);
+  padded = subst (IsZeroPaddedFile BODY_SIZE) (sym is) (λ p has. absurd (omega arith));
   numbered = numbered;
-}
+} where
+  none_at : (j : ℕ) (b : Body) → slice_get [] j ≡ Some b → ⊥
+  none_at j b at = let within = slice_get_within [] j b at in omega arith
 
 -- the next body of a list that isn't copied whole
-pub record IsNext (bodies list : List Body) (count index : ℕ) (numbers : List ℕ) (file : List ℕ) : Type 0 where
+pub record IsNext (from : List ℕ) (bodies list : List Body) (count index : ℕ) (numbers : List ℕ) (file : List ℕ) : Type 0 where
   pub copied : List Body
   pub body : Body
   pub others : List Body
   pub all : list ≡ (copied ++ body ∷ []) ++ others
   pub many : length copied ≡ count
   pub holds : HoldsBodies file copied
+  pub kicks : KicksCome from bodies file copied
+  pub padded : IsZeroPaddedFile BODY_SIZE file
   pub there : slice_get bodies index ≡ Some body
   pub numbered : AreNumbersOf bodies numbers others
 
-pub copied_next : (bodies list : List Body) (count index : ℕ) (numbers rest : List ℕ) (file : List ℕ) → numbers ≡ index ∷ rest
-    → IsCopied bodies list count numbers file → IsNext bodies list count index rest file
-copied_next bodies list count index numbers rest file is so_far =
+pub copied_next : (from : List ℕ) (bodies list : List Body) (count index : ℕ) (numbers rest : List ℕ) (file : List ℕ) → numbers ≡ index ∷ rest
+    → IsCopied from bodies list count numbers file → IsNext from bodies list count index rest file
+copied_next from bodies list count index numbers rest file is so_far =
     next so_far.others so_far.all (subst (λ l. AreNumbersOf bodies l so_far.others) is so_far.numbered) where
       next : (others : List Body) → list ≡ so_far.copied ++ others → AreNumbersOf bodies (index ∷ rest) others
-          → IsNext bodies list count index rest file
+          → IsNext from bodies list count index rest file
       next [] all left = absurd left
       next (b ∷ bs) all left = record {
         copied = so_far.copied;
@@ -60,18 +81,36 @@ copied_next bodies list count index numbers rest file is so_far =
         all = all ∙ sym (append_assoc so_far.copied (b ∷ []) bs);
         many = so_far.many;
         holds = so_far.holds;
+        kicks = so_far.kicks;
+        padded = so_far.padded;
         there = left.0;
         numbered = left.1;
       }
 
-pub copied_more : (bodies list : List Body) (count index : ℕ) (rest : List ℕ) (file after : List ℕ)
-    → (next : IsNext bodies list count index rest file) → HoldsBodies after (next.copied ++ next.body ∷ [])
-    → IsCopied bodies list (count + 1) rest after
-copied_more bodies list count index rest file after next holds = record {
+-- the kicks of one body more
+kicks_more : (from file after : List ℕ) (bodies copied : List Body) (body : Body) (kick : V3) (index : ℕ) → KicksCome from bodies file copied
+    → slice_get bodies index ≡ Some body → kick ≡ kick_of (record_of from index) → IsPushed copied body kick file after
+    → KicksCome from bodies after (copied ++ body ∷ [])
+kicks_more from file after bodies copied body kick index come there is pushed kicks has j b at =
+    elim (cases_lt j (length copied)) [
+      | inl before ↦ ap kick_of (pushed.records j before) ∙ come kicks has j b (sym (pushed_before copied body j before) ∙ at)
+      | inr behind ↦
+          let within = slice_get_within (copied ++ body ∷ []) j b at in
+          let last : length copied ≡ j = omega (arith, length-append copied (body ∷ [])) in
+          let same : body ≡ b = same_Some body b (sym (pushed_here copied body) ∙ ap (slice_get (copied ++ body ∷ [])) last ∙ at) in
+          ap (λ i. kick_of (record_of after i)) (sym last) ∙ pushed.last ∙ is ∙ has index body there ∙ ap kicks same
+    ]
+
+pub copied_more : (from : List ℕ) (bodies list : List Body) (count index : ℕ) (rest : List ℕ) (file after : List ℕ) (kick : V3)
+    → (next : IsNext from bodies list count index rest file) → kick ≡ kick_of (record_of from index)
+    → IsPushed next.copied next.body kick file after → IsCopied from bodies list (count + 1) rest after
+copied_more from bodies list count index rest file after kick next is pushed = record {
   copied = next.copied ++ next.body ∷ [];
   others = next.others;
   all = next.all;
   many = length-append next.copied (next.body ∷ []) ∙ ap (λ n. n + 1) next.many;
-  holds = holds;
+  holds = pushed.holds;
+  kicks = kicks_more from file after bodies next.copied next.body kick index next.kicks next.there is pushed;
+  padded = pushed.padded next.padded;
   numbered = next.numbered;
 }

@@ -16,7 +16,7 @@ use Rattle.std.proofs.lemmas.Map.Keys.{sorted_head, sorted_tail}
 use Rattle.std.proofs.lemmas.Option.{get_or_from_slice_get, slice_get_within}
 use Rattle.nb_model.specs.declared.body.Body.{Body}
 use Rattle.nb_record.specs.Order.{precedes, insert_by, sorted_by, HaveDifferentIds, IsSortedByRank}
-use Rattle.nb_record.proofs.Sorting.{permuted, only}
+use Rattle.nb_record.proofs.Callers.{permuted, only}
 use Rattle.nb_order.specs.Places.{IsEntryOf, AreFirstPlaces, AreNumbersOf}
 
 -- ---- the order of two keys
@@ -49,6 +49,11 @@ both_same false true false true is = refl
 both_same false true false false is = cc
 both_same false false q f is = cc
 
+both_first : (p e q f : Bool) → ordering_then (by_tests p e) (by_tests q f) ≡ Equal → e ≡ true
+both_first true e q f is = cc
+both_first false true q f is = refl
+both_first false false q f is = cc
+
 module _ (rank : Body → ℕ) where
   abbrev pub key_of : Body → ℕ × ℕ
   key_of b = (rank b, b.id)
@@ -62,6 +67,10 @@ module _ (rank : Body → ℕ) where
   same_id : (a b : Body) → key_order (key_of a) (key_of b) ≡ Equal → a.id ≡ b.id
   same_id a b is =
       eqb-true a.id b.id (both_same (ltb (rank a) (rank b)) (eqb (rank a) (rank b)) (ltb a.id b.id) (eqb a.id b.id) is)
+
+  same_rank : (a b : Body) → key_order (key_of a) (key_of b) ≡ Equal → rank a ≡ rank b
+  same_rank a b is =
+      eqb-true (rank a) (rank b) (both_first (ltb (rank a) (rank b)) (eqb (rank a) (rank b)) (ltb a.id b.id) (eqb a.id b.id) is)
 
   -- ---- an insertion
 
@@ -114,18 +123,19 @@ module _ (rank : Body → ℕ) where
 
     -- ---- an entry with the key of the body
 
-    -- a body of the list with the body's id, and with a number below the body's
-    record IsDouble : Type 0 where
-      other : Body
-      place : ℕ
-      below : place < n
-      there : slice_get bodies place ≡ Some other
-      same : other.id ≡ b.id
+    -- a body of the list with the body's rank and id, and with a number below the body's
+    pub record IsDoubled : Type 0 where
+      pub other : Body
+      pub place : ℕ
+      pub below : place < n
+      pub there : slice_get bodies place ≡ Some other
+      pub ranks : rank other ≡ rank b
+      pub same : other.id ≡ b.id
 
     double_by : (o : Ordering) (e : (ℕ × ℕ) × ℕ) (es : List ((ℕ × ℕ) × ℕ)) (c : Body) (cs : List Body) (v : ℕ)
         → Entries (e ∷ es) (c ∷ cs) → All (λ number. number < n) (values_of (e ∷ es))
         → lookup (is_at (key_order (key_of b))) (e ∷ es) ≡ Some v → key_order (key_of b) e.0 ≡ o
-        → (lookup (is_at (key_order (key_of b))) es ≡ Some v → IsDouble) → IsDouble
+        → (lookup (is_at (key_order (key_of b))) es ≡ Some v → IsDoubled) → IsDoubled
     double_by Less e es c cs v all numbers found is rest =
         rest (ap (λ o. cond (is_eq o) (Some e.1) (lookup (is_at (key_order (key_of b))) es)) (sym is) ∙ found)
     double_by Equal e es c cs v all numbers found is rest = record {
@@ -133,26 +143,29 @@ module _ (rank : Body → ℕ) where
       place = e.1;
       below = numbers 0 0 (omega arith);
       there = all.0.number;
+      ranks = sym (same_rank b c (ap (key_order (key_of b)) (sym all.0.key) ∙ is));
       same = sym (same_id b c (ap (key_order (key_of b)) (sym all.0.key) ∙ is));
     }
     double_by Greater e es c cs v all numbers found is rest =
         rest (ap (λ o. cond (is_eq o) (Some e.1) (lookup (is_at (key_order (key_of b))) es)) (sym is) ∙ found)
 
     double : (es : List ((ℕ × ℕ) × ℕ)) (cs : List Body) (v : ℕ) → Entries es cs → All (λ number. number < n) (values_of es)
-        → lookup (is_at (key_order (key_of b))) es ≡ Some v → IsDouble
+        → lookup (is_at (key_order (key_of b))) es ≡ Some v → IsDoubled
     double [] cs v all numbers found = cc
     double (e ∷ es) [] v all numbers found = absurd all
     double (e ∷ es) (c ∷ cs) v all numbers found =
         double_by (key_order (key_of b) e.0) e es c cs v all numbers found refl
         (λ later. double es cs v all.1 (All-tail (λ number. number < n) e.1 (values_of es) numbers) later)
 
+    pub doubled : (es : List ((ℕ × ℕ) × ℕ)) (key : ℕ × ℕ) (v : ℕ) → key ≡ key_of b → AreFirstPlaces rank bodies n es
+        → All (λ number. number < n) (values_of es) → Some v ≡ lookup (is_at (key_order key)) es → IsDoubled
+    doubled es key v is_key all numbers found =
+        double es (sorted_by rank (take n bodies)) v all numbers
+        (sym (subst (λ k. Some v ≡ lookup (is_at (key_order k)) es) is_key found))
+
     -- where the ids differ there is none
-    pub never_doubled : (es : List ((ℕ × ℕ) × ℕ)) (key : ℕ × ℕ) (v : ℕ) → key ≡ key_of b → AreFirstPlaces rank bodies n es
-        → All (λ number. number < n) (values_of es) → Some v ≡ lookup (is_at (key_order key)) es
-        → HaveDifferentIds bodies → ⊥
-    never_doubled es key v is_key all numbers found different =
-        let one = double es (sorted_by rank (take n bodies)) v all numbers
-        (sym (subst (λ k. Some v ≡ lookup (is_at (key_order k)) es) is_key found)) in
+    pub never_doubled : IsDoubled → HaveDifferentIds bodies → ⊥
+    never_doubled one different =
         different one.place n b one.below (slice_get_within bodies n b at)
         (ap (λ (c : Body). c.id) (get_or_from_slice_get bodies one.place one.other b one.there) ∙ one.same
         ∙ ap (λ (c : Body). c.id) (sym (get_or_from_slice_get bodies n b b at)))

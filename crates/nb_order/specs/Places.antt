@@ -1,8 +1,20 @@
--- The numbers of some bodies, by rank and id.
-use Rattle.std.specs.Prelude.{◌≡◌, ℕ, List, take, slice_get, Some}
+-- The numbers of some bodies of a file, by rank and id.
+use Rattle.std.specs.Prelude.{◌≡◌, ℕ, ◌<◌, List, length, take, slice_get, Some}
 use Rattle.std.specs.List.{AllZip}
+use Rattle.nb_model.specs.declared.body.V3.{V3}
 use Rattle.nb_model.specs.declared.body.Body.{Body}
-use Rattle.nb_record.specs.Order.{sorted_by}
+use Rattle.nb_record.specs.Records.{body_of, kick_of}
+use Rattle.nb_record.specs.Order.{sorted_by, record_of}
+use Rattle.nb_order.specs.Files.{HasBody}
+
+-- these are the first bodies of the file, and each stands there
+pub record HasFirst (file : List ℕ) (bodies : List Body) : Type 0 where
+  pub each : (j : ℕ) → j < length bodies → HasBody file j
+  pub held : (j : ℕ) → j < length bodies → slice_get bodies j ≡ Some (body_of (record_of file j))
+
+-- these are the kicks of the bodies in the file
+abbrev pub HasKicks : List ℕ → (Body → V3) → List Body → Type 0
+HasKicks file kick bodies = (j : ℕ) (b : Body) → slice_get bodies j ≡ Some b → kick_of (record_of file j) ≡ kick b
 
 -- The entry is that of a body of the list: its key is the body's rank and id, and its value the body's number, counted from 0.
 pub record IsEntryOf (rank : Body → ℕ) (bodies : List Body) (entry : (ℕ × ℕ) × ℕ) (body : Body) : Type 0 where

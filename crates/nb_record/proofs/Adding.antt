@@ -1,13 +1,17 @@
 -- What a write leaves of a page's header and of its records.
-use Rattle.std.proofs.Common.{◌≡◌, ℕ, zero, suc, ◌+◌, ◌*◌, ◌^◌, ◌<◌, ◌≤◌, List, [], ◌∷◌, ◌++◌, length, take, drop, sym, ap, ◌∙◌, subst, refl, arith}
+use Rattle.std.proofs.Common.{◌≡◌, ℕ, zero, suc, ◌+◌, ◌-◌, ◌*◌, ◌^◌, ◌<◌, ◌≤◌, List, [], ◌∷◌, ◌++◌, length, take, drop, sym, ap, ◌∙◌, subst, refl, arith}
+use Rattle.std.specs.Prelude.{replicate}
+use Rattle.std.proofs.Math.Nat.{mul-add}
 use Rattle.std.proofs.lemmas.Nat.{column_fits}
+use Rattle.std.proofs.lemmas.List.{drop-drop, drop-replicate}
 use Rattle.nb_model.specs.declared.body.Body.{Body}
 use Rattle.nb_record.specs.declared.cell.Cell.{Cell}
-use Rattle.nb_record.specs.declared.sizes.TheConstants.{PAGE_SIZE, HEADER_SIZE, BODY_SIZE, CELL_SIZE, BODIES_PER_PAGE, CELLS_PER_PAGE}
+use Rattle.nb_host.specs.declared.page_name.TheConstants.{PAGE_SIZE}
+use Rattle.nb_record.specs.declared.sizes.TheConstants.{HEADER_SIZE, BODY_SIZE, CELL_SIZE, BODIES_PER_PAGE, CELLS_PER_PAGE}
 use Rattle.nb_record.specs.Fields.{word, word_bytes, written}
 use Rattle.nb_record.specs.Pages.{page_number, page_count, page_next, IsCellPage, IsBodyPage}
 use Rattle.nb_record.specs.Records.{body_record, body_of, first_bodies, bodies_of, cell_record, cell_of, first_cells, cells_of}
-use Rattle.nb_record.specs.Writing.{zero_page, empty_page, with_record}
+use Rattle.nb_record.specs.Writing.{zero_page, empty_page, with_record, records_end, IsZeroPadded}
 use Rattle.nb_record.proofs.Writes.{length-written, part_before, part_after, part_here, length-word_bytes, word_before, word_after, word_here}
 
 -- ---- one more record
@@ -140,6 +144,27 @@ body_page_added piece bytes has room is = record {
   zeros = word_kept BODY_SIZE piece bytes 24 has (omega arith) (omega arith) ∙ is.zeros;
 }
 
+-- ---- zeros behind the last record
+
+pub padded_added : (size : ℕ) (piece bytes : List ℕ) → HasRoom size piece bytes → IsZeroPadded size bytes → IsZeroPadded size (with_record size piece bytes)
+padded_added size piece bytes has padded =
+    let new = with_record size piece bytes in
+    let end = records_end size bytes in
+    let ends : records_end size new ≡ end + size = omega (arith, ap (λ n. size * n) (count_more size piece bytes has), mul-add size (page_count bytes) 1) in
+    let behind : drop (end + size) new ≡ drop (end + size) bytes =
+    ap (λ k. drop k new) (regroup HEADER_SIZE (size * page_count bytes) size)
+    ∙ past_count size piece bytes (size * page_count bytes + size) has
+    ∙ part_after end piece bytes (HEADER_SIZE + (size * page_count bytes + size)) (omega (arith, has.room)) (omega (arith, has.fits))
+    ∙ ap (λ k. drop k bytes) (sym (regroup HEADER_SIZE (size * page_count bytes) size)) in
+    ap (λ k. drop k new) ends
+    ∙ behind
+    ∙ sym (drop-drop size end bytes)
+    ∙ ap (drop size) padded
+    ∙ drop-replicate size (PAGE_SIZE - end) 0
+    ∙ ap (λ k. replicate k 0) (omega (arith, ends)) where
+      regroup : (a b c : ℕ) → a + b + c ≡ a + (b + c)
+      regroup a b c = omega arith
+
 -- ---- the next page
 
 -- a page with another next page
@@ -165,6 +190,15 @@ next_form page bytes long fits later is = record {
   next = λ some. omega (arith, next_is page bytes long fits);
   zeros = word_after 16 (word_bytes page) bytes 24 (omega arith) (omega (arith, length-word_bytes page)) ∙ is.zeros;
 }
+
+pub next_padded : (page : ℕ) (bytes : List ℕ) → length bytes ≡ PAGE_SIZE → IsZeroPadded CELL_SIZE bytes → IsZeroPadded CELL_SIZE (with_next page bytes)
+next_padded page bytes long padded =
+    let new = with_next page bytes in
+    let ends : records_end CELL_SIZE new ≡ records_end CELL_SIZE bytes = omega (arith, next_count page bytes long) in
+    ap (λ k. drop k new) ends
+    ∙ part_after 16 (word_bytes page) bytes (records_end CELL_SIZE bytes) (omega arith) (omega (arith, length-word_bytes page))
+    ∙ padded
+    ∙ ap (λ k. replicate (PAGE_SIZE - k) 0) (sym ends)
 
 -- ---- an empty page
 
@@ -209,3 +243,16 @@ empty_says_no_cell page = ap (λ n. first_cells n (empty_page page)) (empty_coun
 pub empty_says_no_body : (page : ℕ) → bodies_of (empty_page page) ≡ []
 unfolding first_bodies
 empty_says_no_body page = ap (λ n. first_bodies n (empty_page page)) (empty_count page)
+
+zeros_from : (k : ℕ) → drop k zero_page ≡ replicate (PAGE_SIZE - k) 0
+unfolding zero_page
+zeros_from k = drop-replicate k PAGE_SIZE 0
+
+pub empty_padded : (size page : ℕ) → IsZeroPadded size (empty_page page)
+empty_padded size page =
+    let none = empty_count page in
+    let end : records_end size (empty_page page) ≡ HEADER_SIZE = omega (arith, ap (λ n. size * n) none) in
+    ap (λ k. drop k (empty_page page)) end
+    ∙ part_after 0 (word_bytes page) zero_page HEADER_SIZE (omega arith) (omega (arith, length-word_bytes page))
+    ∙ zeros_from HEADER_SIZE
+    ∙ ap (λ k. replicate (PAGE_SIZE - k) 0) (sym end)

@@ -1,9 +1,10 @@
 -- A file of bodies holds one list, and each of its bodies has a place.
-use Rattle.std.proofs.Common.{◌≡◌, ℕ, zero, suc, ◌-◌, ◌*◌, ◌/◌, ◌%◌, ◌<◌, List, length, sym, ◌∙◌, arith}
+use Rattle.std.proofs.Common.{◌≡◌, ℕ, zero, suc, ◌-◌, ◌/◌, ◌%◌, ◌<◌, List, length, sym, ◌∙◌, arith}
 use Rattle.std.proofs.lemmas.List.{same_lists}
 use Rattle.std.proofs.lemmas.Option.{get_or_from_slice_get}
 use Rattle.nb_model.specs.declared.body.Body.{Body}
-use Rattle.nb_record.specs.declared.sizes.TheConstants.{PAGE_SIZE, BODIES_PER_PAGE}
+use Rattle.nb_host.specs.Page.{page_start}
+use Rattle.nb_record.specs.declared.sizes.TheConstants.{BODIES_PER_PAGE}
 use Rattle.nb_record.specs.Records.{body_of}
 use Rattle.nb_record.specs.Order.{pages_for, count_on, record_of, HoldsBodies}
 
@@ -13,7 +14,7 @@ page_within count j below = omega arith
 pub place_within : (count j : ℕ) → j < count → j % BODIES_PER_PAGE < count_on count (j / BODIES_PER_PAGE)
 place_within count j below = grind arith
 
-same_pages : (a b : ℕ) → PAGE_SIZE * pages_for a ≡ PAGE_SIZE * pages_for b → pages_for a ≡ pages_for b
+same_pages : (a b : ℕ) → page_start (pages_for a) ≡ page_start (pages_for b) → pages_for a ≡ pages_for b
 same_pages a b same = omega arith
 
 -- the last page tells the count

@@ -1,31 +1,34 @@
-pub mod Writes
-pub mod Rows
-pub mod Adding
-pub mod Searching
-pub mod Sorting
-pub mod Checks
-pub mod Lists
-pub mod Files
-pub mod Chains
-pub mod Kids
-pub mod Lookups
-pub mod Splits
-pub mod Moves
-pub mod Orders
-pub mod Places
-pub mod Siblings
-pub mod TreeCells
-pub mod TreeKeys
-pub mod TreeFound
-pub mod TreeKids
-pub mod TreeForms
-pub mod TreeCounts
-pub mod SameTrees
-pub mod SameForces
-pub mod TreeForces
-pub mod SameLists
-pub mod CellBodies
-pub mod KidBits
-pub mod VectorSums
-pub mod SameSteps
-pub mod KickedTrees
+pub mod Callers
+mod Writes
+mod Rows
+mod Adding
+mod Searching
+mod Sorting
+mod Checks
+mod Lists
+mod Files
+mod SameFiles
+mod MortonOrder
+mod Chains
+mod Kids
+mod Lookups
+mod Splits
+mod Moves
+mod Orders
+mod Places
+mod Siblings
+mod TreeCells
+mod TreeKeys
+mod TreeFound
+mod TreeKids
+mod TreeForms
+mod TreeCounts
+mod SameTrees
+mod SameForces
+mod TreeForces
+mod SameLists
+mod CellBodies
+mod KidBits
+mod VectorSums
+mod SameSteps
+mod KickedTrees

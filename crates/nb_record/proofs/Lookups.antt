@@ -9,7 +9,7 @@ use Rattle.std.proofs.lemmas.List.Elements.{All-nil, All-cons, All-head, All-tai
 use Rattle.std.proofs.lemmas.List.Sorted.{All-permutation, IsPermutation-sym}
 use Rattle.nb_record.specs.declared.cell.Cell.{Cell}
 use Rattle.nb_record.specs.Records.{cells_of}
-use Rattle.nb_record.specs.Order.{page_of}
+use Rattle.nb_host.specs.Page.{page_of}
 use Rattle.nb_record.specs.Table.{next_of, cells_on_chain, IsCellTable}
 use Rattle.nb_record.proofs.Sorting.{either}
 use Rattle.nb_record.proofs.Chains.{leads_on, chain_ends, chain_follows}

@@ -12,8 +12,8 @@ use Rattle.nb_model.specs.Leapfrog.{in_box}
 use Rattle.nb_key.specs.Morton.{morton_key}
 use Rattle.nb_key.proofs.Levels.{key_fits}
 use Rattle.nb_key.proofs.Paths.{key_is}
-use Rattle.nb_record.specs.Order.{by_key, precedes, insert_by, sorted_by, HaveDifferentIds}
-use Rattle.nb_record.proofs.Sorting.{Before, Each, Ordered, either, each_implied, insert_here, insert_behind, insert_nil, sorted_cons, sorted_nil, each_sorted, each_inserted, ordered, neighbours, apart_by_ids, permuted, sorted, only}
+use Rattle.nb_record.specs.Order.{by_key, by_id, precedes, insert_by, sorted_by, HaveDifferentIds}
+use Rattle.nb_record.proofs.Sorting.{Before, Differ, Apart, apart_permuted, Each, Ordered, either, each_implied, insert_here, insert_behind, insert_nil, sorted_cons, sorted_nil, each_sorted, each_inserted, ordered, neighbours, apart_by_ids, permuted, sorted, only}
 use Rattle.nb_record.proofs.Splits.{length-sorted_by, is_below, isnt_below, filter_yes, filter_no, each_kept, sorted_split}
 use Rattle.nb_record.proofs.Moves.{IsPermutation-filter}
 
@@ -117,6 +117,20 @@ ranks_rise rank bs = rising_at rank (sorted_by rank bs) (rising_sorted rank bs)
 pub same_order : (rank : Body → ℕ) (xs ys : List Body) → HaveDifferentIds xs → IsPermutation xs ys → sorted_by rank xs ≡ sorted_by rank ys
 same_order rank xs ys different is =
     only rank ys (sorted_by rank xs) (IsPermutation-trans ys xs (sorted_by rank xs) (IsPermutation-sym xs ys is) (permuted rank xs)) (sorted rank xs different)
+
+apart_at : (rank : Body → ℕ) (bs : List Body) → Apart rank bs → (i j : ℕ) (d : Body) → i < j → j < length bs → Differ rank (get_or bs i d) (get_or bs j d)
+apart_at rank [] apart i j d before within = absurd (omega arith)
+apart_at rank (b ∷ bs) apart zero zero d before within = absurd (omega arith)
+apart_at rank (b ∷ bs) apart zero (suc j) d before within = each_at (Differ rank b) bs apart.0 j d (omega arith)
+apart_at rank (b ∷ bs) apart (suc i) zero d before within = absurd (omega arith)
+apart_at rank (b ∷ bs) apart (suc i) (suc j) d before within = apart_at rank bs apart.1 i j d (omega arith) (omega arith)
+
+-- ids that differ do so in any order
+pub different_permuted : (xs ys : List Body) → HaveDifferentIds xs → IsPermutation xs ys → HaveDifferentIds ys
+different_permuted xs ys different is i j d before within =
+    let sorted_xs = sorted_by by_id xs in
+    let back = IsPermutation-trans ys xs sorted_xs (IsPermutation-sym xs ys is) (permuted by_id xs) in
+    apart_at by_id ys (apart_permuted by_id ys sorted_xs back (ordered by_id xs (apart_by_ids by_id xs different))) i j d before within refl
 
 each_filtered : (P : Body → Type 0) (p : Body → Bool) (bs : List Body) → Each P bs → Each P (filter p bs)
 each_filtered P p [] each = tt

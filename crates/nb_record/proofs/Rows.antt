@@ -1,17 +1,20 @@
 -- A record says what was written into it.
-use Rattle.std.proofs.Common.{◌≡◌, ℕ, ◌+◌, ◌*◌, ◌^◌, ◌<◌, ◌≤◌, List, [], ◌∷◌, ◌++◌, length, Bool, true, false, cond, eqb, sym, ap, ◌∙◌, refl, arith, ℤ, pos, negsuc, FitsSigned, subst}
+use Rattle.std.proofs.Common.{◌≡◌, ℕ, ◌+◌, ◌-◌, ◌*◌, ◌^◌, ◌<◌, ◌≤◌, List, [], ◌∷◌, ◌++◌, length, Bool, true, false, cond, eqb, sym, ap, ◌∙◌, refl, arith, ℤ, pos, negsuc, FitsSigned, unsigned_abs, subst}
 use Rattle.std.specs.Int.{w64, cast_signed, cast_unsigned}
 use Rattle.std.specs.List.{flat_map}
-use Rattle.std.proofs.lemmas.Int.{to_z-of_z}
+use Rattle.std.proofs.lemmas.Int.{to_z-of_z, fits_signed_from_abs}
 use Rattle.std.proofs.lemmas.List.{append_assoc, length-append}
+use Rattle.nb_model.specs.declared.body.V3.{V3}
 use Rattle.nb_model.specs.declared.body.Body.{Body}
-use Rattle.nb_model.specs.Valid.{IsValidBody}
+use Rattle.nb_model.specs.Limits.{kick_limit}
+use Rattle.nb_model.specs.Valid.{IsBelow, IsValidBody}
 use Rattle.nb_record.specs.declared.cell.Cell.{Cell}
-use Rattle.nb_record.specs.declared.sizes.TheConstants.{PAGE_SIZE, BODY_SIZE, CELL_SIZE, BODIES_PER_PAGE, CELLS_PER_PAGE}
+use Rattle.nb_host.specs.declared.page_name.TheConstants.{PAGE_SIZE}
+use Rattle.nb_record.specs.declared.sizes.TheConstants.{BODY_SIZE, CELL_SIZE, KICK_AT, BODIES_PER_PAGE, CELLS_PER_PAGE}
 use Rattle.nb_record.specs.Fields.{word, short, signed_word, word_bytes, short_bytes, written}
 use Rattle.nb_record.specs.Pages.{page_count}
-use Rattle.nb_record.specs.Records.{body_of, body_bytes, IsBodyRecord, FitsBodyRecord, cell_of, cell_bytes, FitsCellRecord}
-use Rattle.nb_record.proofs.Writes.{length-word_bytes, length-short_bytes, word_first, short_first, word_past, short_past, written_twice}
+use Rattle.nb_record.specs.Records.{body_of, body_bytes, kick_of, kick_bytes, record_bytes, IsBodyRecord, FitsBodyRecord, cell_of, cell_bytes, FitsCellRecord}
+use Rattle.nb_record.proofs.Writes.{length-word_bytes, length-short_bytes, word_first, short_first, word_past, short_past, word_front, short_front, written_twice}
 use Rattle.nb_record.proofs.Adding.{HasRoom}
 
 -- ---- eight words in a row
@@ -82,7 +85,7 @@ grouped b =
     append_assoc (word_bytes b.id ++ short_bytes b.mass) (short_bytes (flag_of b.out)) (flat_map word_bytes (tail_of b))
     ∙ append_assoc (word_bytes b.id) (short_bytes b.mass) (short_bytes (flag_of b.out) ++ flat_map word_bytes (tail_of b))
 
-pub body_size : (b : Body) → length (body_bytes b) ≡ BODY_SIZE
+body_size : (b : Body) → length (body_bytes b) ≡ KICK_AT
 body_size b =
     omega (
       arith,
@@ -141,7 +144,7 @@ body_mass b fits =
 body_id : (b : Body) → b.id < 2 ^ 64 → word 0 (body_bytes b) ≡ b.id
 body_id b fits = ap (word 0) (grouped b) ∙ word_first b.id (short_bytes b.mass ++ (short_bytes (flag_of b.out) ++ flat_map word_bytes (tail_of b))) fits
 
-pub body_round : (b : Body) → FitsBodyRecord b → body_of (body_bytes b) ≡ b
+body_round : (b : Body) → FitsBodyRecord b → body_of (body_bytes b) ≡ b
 body_round b fits =
     let from_vz = cast_unsigned w64 b.v.z ∷ [] in
     let from_vy = cast_unsigned w64 b.v.y ∷ from_vz in
@@ -171,17 +174,86 @@ body_round b fits =
       v = record { x = vx i; y = vy i; z = vz i };
     }
 
-pub body_form : (b : Body) → IsValidBody b → FitsBodyRecord b → IsBodyRecord (body_bytes b)
-body_form b valid fits = record {
-  flag = omega (arith, body_flag b, flag_le b.out);
-  body = subst IsValidBody (sym (body_round b fits)) valid;
-}
+-- ---- kicks
 
-pub body_room : (b : Body) (bytes : List ℕ) → length bytes ≡ PAGE_SIZE → page_count bytes < BODIES_PER_PAGE → HasRoom BODY_SIZE (body_bytes b) bytes
-body_room b bytes long room = record { fits = body_size b; room = omega arith; count = omega arith }
+-- the words of a kick
+abbrev kick_words : V3 → List ℕ
+kick_words kick = cast_unsigned w64 kick.x ∷ cast_unsigned w64 kick.y ∷ cast_unsigned w64 kick.z ∷ []
+
+kick_size : (kick : V3) → length (kick_bytes kick) ≡ BODY_SIZE - KICK_AT
+kick_size kick = row_length (kick_words kick)
+
+pub record_size : (b : Body) (kick : V3) → length (record_bytes b kick) ≡ BODY_SIZE
+record_size b kick = omega (arith, length-append (body_bytes b) (kick_bytes kick), body_size b, kick_size kick)
+
+-- what stands behind a body's bytes leaves what they say
+body_front : (b : Body) (rest : List ℕ) → body_of (body_bytes b ++ rest) ≡ body_of (body_bytes b)
+body_front b rest =
+    let long = body_size b in
+    let id = word_front 0 (body_bytes b) rest (omega arith) in
+    let mass = short_front 8 (body_bytes b) rest (omega arith) in
+    let out = ap (λ f. eqb f 1) (short_front 12 (body_bytes b) rest (omega arith)) in
+    let x = word_front 16 (body_bytes b) rest (omega arith) in
+    let y = word_front 24 (body_bytes b) rest (omega arith) in
+    let z = word_front 32 (body_bytes b) rest (omega arith) in
+    let vx = ap (cast_signed w64) (word_front 40 (body_bytes b) rest (omega arith)) in
+    let vy = ap (cast_signed w64) (word_front 48 (body_bytes b) rest (omega arith)) in
+    let vz = ap (cast_signed w64) (word_front 56 (body_bytes b) rest (omega arith)) in
+    λ i. record {
+      id = id i;
+      mass = mass i;
+      out = out i;
+      at = record { x = x i; y = y i; z = z i };
+      v = record { x = vx i; y = vy i; z = vz i };
+    }
+
+pub record_body : (b : Body) (kick : V3) → FitsBodyRecord b → body_of (record_bytes b kick) ≡ b
+record_body b kick fits = body_front b (kick_bytes kick) ∙ body_round b fits
+
+-- an axis of a kick fits its word
+axis_fits : (z : ℤ) → unsigned_abs z < kick_limit → FitsSigned w64 z
+axis_fits z below = fits_signed_from_abs w64 z (omega arith)
+
+-- a word of the kick, read as a number with a sign
+kick_axis : (b : Body) (kick : V3) (k : ℕ) (z : ℤ) → unsigned_abs z < kick_limit → word k (kick_bytes kick) ≡ cast_unsigned w64 z
+    → signed_word (KICK_AT + k) (record_bytes b kick) ≡ z
+kick_axis b kick k z below is =
+    ap (cast_signed w64) (word_past (body_bytes b) (kick_bytes kick) KICK_AT k (body_size b) ∙ is)
+    ∙ to_z-of_z w64 z (axis_fits z below)
+
+pub record_kick : (b : Body) (kick : V3) → IsBelow kick_limit kick → kick_of (record_bytes b kick) ≡ kick
+record_kick b kick below =
+    let ux = cast_unsigned w64 kick.x in
+    let uy = cast_unsigned w64 kick.y in
+    let uz = cast_unsigned w64 kick.z in
+    let wx = word_0 ux (uy ∷ uz ∷ []) (unsigned_fits kick.x (axis_fits kick.x below.x)) in
+    let wy = word_more 0 ux uy (uy ∷ uz ∷ []) (word_0 uy (uz ∷ []) (unsigned_fits kick.y (axis_fits kick.y below.y))) in
+    let wz = word_more 8 ux uz (uy ∷ uz ∷ []) (word_more 0 uy uz (uz ∷ []) (word_0 uz [] (unsigned_fits kick.z (axis_fits kick.z below.z)))) in
+    let x = kick_axis b kick 0 kick.x below.x wx in
+    let y = kick_axis b kick 8 kick.y below.y wy in
+    let z = kick_axis b kick 16 kick.z below.z wz in
+    λ i. record { x = x i; y = y i; z = z i }
+
+pub record_form : (b : Body) (kick : V3) → IsValidBody b → FitsBodyRecord b → IsBelow kick_limit kick → IsBodyRecord (record_bytes b kick)
+record_form b kick valid fits below =
+    let long = body_size b in
+    record {
+      flag = omega (arith, short_front 12 (body_bytes b) (kick_bytes kick) (omega arith), body_flag b, flag_le b.out);
+      body = subst IsValidBody (sym (record_body b kick fits)) valid;
+      kick = subst (IsBelow kick_limit) (sym (record_kick b kick below)) below;
+    }
+
+pub record_room : (b : Body) (kick : V3) (bytes : List ℕ) → length bytes ≡ PAGE_SIZE → page_count bytes < BODIES_PER_PAGE → HasRoom BODY_SIZE (record_bytes b kick) bytes
+record_room b kick bytes long room = record { fits = record_size b kick; room = omega arith; count = omega arith }
+
+-- a body and its kick, written one behind the other, are the record
+pub two_writes : (at : ℕ) (bytes : List ℕ) (b : Body) (kick : V3) → at + BODY_SIZE ≤ length bytes
+    → written (at + KICK_AT) (kick_bytes kick) (written at (body_bytes b) bytes) ≡ written at (record_bytes b kick) bytes
+two_writes at bytes b kick within =
+    written_twice at (body_bytes b) (kick_bytes kick) bytes (at + KICK_AT) (omega (arith, body_size b)) (omega arith) (omega arith)
 
 -- four fields, written one behind the other, are the record
-pub four_writes : (at : ℕ) (bytes id mass flag row : List ℕ) → at + BODY_SIZE ≤ length bytes → length id ≡ 8 → length mass ≡ 4 → length flag ≡ 4
+pub four_writes : (at : ℕ) (bytes id mass flag row : List ℕ) → at + KICK_AT ≤ length bytes → length id ≡ 8 → length mass ≡ 4 → length flag ≡ 4
     → written (at + 16) row (written (at + 12) flag (written (at + 8) mass (written at id bytes))) ≡ written at (id ++ mass ++ flag ++ row) bytes
 four_writes at bytes id mass flag row within long_id long_mass long_flag =
     let two : length (id ++ mass) ≡ 12 = omega (arith, length-append id mass) in

@@ -1,19 +1,18 @@
 -- A tick of a list, and of the same bodies in another order.
-use Rattle.std.proofs.Common.{◌≡◌, ℕ, ◌<◌, Bool, true, false, cond, ◌&&◌, List, [], ◌∷◌, length, map, get_or, sym, ap, ◌∙◌, refl, subst, inl, inr, arith, ℤ}
-use Rattle.std.specs.Prelude.{unsigned_abs, All, IsPermutation}
+use Rattle.std.proofs.Common.{◌≡◌, ℕ, ◌<◌, cond, List, [], ◌∷◌, length, map, get_or, sym, ap, ◌∙◌, refl, subst, inl, inr, arith}
+use Rattle.std.specs.Prelude.{All, IsPermutation}
 use Rattle.std.proofs.lemmas.List.{length-map, get_or-map}
 use Rattle.std.proofs.lemmas.List.Elements.{All-map, All-weaker}
 use Rattle.std.proofs.lemmas.List.Sorted.{IsPermutation-map}
-use Rattle.nb_model.specs.declared.body.V3.{V3}
 use Rattle.nb_model.specs.declared.body.Body.{Body}
 use Rattle.nb_model.specs.declared.params.Params.{Params}
 use Rattle.nb_model.specs.declared.way.Way.{Way}
-use Rattle.nb_model.specs.Limits.{box_side}
 use Rattle.nb_model.specs.Valid.{IsInBox}
 use Rattle.nb_model.specs.Vector.{zero_vector}
-use Rattle.nb_model.specs.Leapfrog.{half_kick, accelerate, kick, is_coordinate, is_position, position_of, destination, drift_body, drift, step}
+use Rattle.nb_model.specs.Leapfrog.{half_kick, accelerate, kick, drift_of, drift_body, drift, step}
 use Rattle.nb_model.proofs.Sums.{map_agree}
-use Rattle.nb_model.proofs.Steps.{drift_body_cases, ids-kick, ids-drift, coordinate_from}
+use Rattle.nb_model.proofs.Drifts.{drift_body_cases, is_drifted}
+use Rattle.nb_model.proofs.Steps.{ids-kick, ids-drift}
 use Rattle.nb_record.specs.Order.{by_key, precedes, insert_by, sorted_by, HaveDifferentIds}
 use Rattle.nb_record.proofs.Sorting.{either, permuted, insert_here, insert_behind, insert_nil, sorted_cons, sorted_nil}
 use Rattle.nb_record.proofs.Orders.{same_order}
@@ -36,40 +35,25 @@ same_kick params way xs ys box is =
 
 -- ---- a drift stays in the box
 
-pub same_drift : (way : Way) (xs ys : List Body) → IsPermutation xs ys → IsPermutation (drift way xs) (drift way ys)
-same_drift way xs ys is = IsPermutation-map (drift_body way) xs ys is
+pub same_drift : (params : Params) (way : Way) (xs ys : List Body) → IsPermutation xs ys → IsPermutation (drift params way xs) (drift params way ys)
+same_drift params way xs ys is = IsPermutation-map (drift_body params way) xs ys is
 
-both_true : (t u : Bool) → (t && u) ≡ true → (t ≡ true) × (u ≡ true)
-both_true true u is = (refl, is)
-both_true false u is = absurd (cc)
-
-coordinate_below : (c : ℤ) → is_coordinate c ≡ true → unsigned_abs c < box_side
-coordinate_below c is =
-    let there = coordinate_from c is in
-    rw there.1 there.2
-
-position_in_box : (r : V3) → is_position r ≡ true → IsInBox (position_of r)
-position_in_box r is =
-    let first = both_true (is_coordinate r.x && is_coordinate r.y) (is_coordinate r.z) is in
-    let second = both_true (is_coordinate r.x) (is_coordinate r.y) first.0 in
-    record { x = coordinate_below r.x second.0; y = coordinate_below r.y second.1; z = coordinate_below r.z first.1 }
-
-drifted_in_box : (way : Way) (b : Body) → IsInBox b.at → IsInBox (drift_body way b).at
-drifted_in_box way b box =
-    drift_body_cases way b (λ c. IsInBox c.at) (λ _. box) (λ _ is. position_in_box (destination way b) is) (λ _ _. box)
+drifted_in_box : (params : Params) (way : Way) (b : Body) → IsInBox b.at → IsInBox (drift_body params way b).at
+drifted_in_box params way b box =
+    drift_body_cases params way b (λ c. IsInBox c.at) (λ _. box) (λ _ r there. (is_drifted params.edge b.at (drift_of way b.v) r box there).at) (λ _ _. box)
 
 kicked_box : (params : Params) (way : Way) (bodies : List Body) → All (λ b. IsInBox b.at) bodies → All (λ b. IsInBox b.at) (kick params way bodies)
 kicked_box params way bodies box = All-map (λ b. IsInBox b.at) (λ b. accelerate way (half_kick params bodies b) b) bodies box
 
-pub drifted_box : (way : Way) (bodies : List Body) → All (λ b. IsInBox b.at) bodies → All (λ b. IsInBox b.at) (drift way bodies)
-drifted_box way bodies box =
-    All-map (λ b. IsInBox b.at) (drift_body way) bodies (All-weaker (λ b. IsInBox b.at) (λ b. IsInBox (drift_body way b).at) (drifted_in_box way) bodies box)
+pub drifted_box : (params : Params) (way : Way) (bodies : List Body) → All (λ b. IsInBox b.at) bodies → All (λ b. IsInBox b.at) (drift params way bodies)
+drifted_box params way bodies box =
+    All-map (λ b. IsInBox b.at) (drift_body params way) bodies (All-weaker (λ b. IsInBox b.at) (λ b. IsInBox (drift_body params way b).at) (drifted_in_box params way) bodies box)
 
 pub same_step : (params : Params) (way : Way) (xs ys : List Body) → All (λ c. IsInBox c.at) xs → IsPermutation xs ys → IsPermutation (step params way xs) (step params way ys)
 same_step params way xs ys box is =
     let kicked = same_kick params way xs ys box is in
-    let drifted = same_drift way (kick params way xs) (kick params way ys) kicked in
-    same_kick params way (drift way (kick params way xs)) (drift way (kick params way ys)) (drifted_box way (kick params way xs) (kicked_box params way xs box)) drifted
+    let drifted = same_drift params way (kick params way xs) (kick params way ys) kicked in
+    same_kick params way (drift params way (kick params way xs)) (drift params way (kick params way ys)) (drifted_box params way (kick params way xs) (kicked_box params way xs box)) drifted
 
 -- ---- their order
 
@@ -84,7 +68,7 @@ ids_differ xs ys same different i j d before within =
 pub same_step_order : (params : Params) (way : Way) (rank : Body → ℕ) (xs ys : List Body) → All (λ c. IsInBox c.at) xs → HaveDifferentIds xs → IsPermutation xs ys → sorted_by rank (step params way xs) ≡ sorted_by rank (step params way ys)
 same_step_order params way rank xs ys box different is =
     let kicked = kick params way xs in
-    let ids : map (λ b. b.id) (step params way xs) ≡ map (λ b. b.id) xs = ids-kick params way (drift way kicked) ∙ ids-drift way kicked ∙ ids-kick params way xs in
+    let ids : map (λ b. b.id) (step params way xs) ≡ map (λ b. b.id) xs = ids-kick params way (drift params way kicked) ∙ ids-drift params way kicked ∙ ids-kick params way xs in
     same_order rank (step params way xs) (step params way ys) (ids_differ xs (step params way xs) ids different) (same_step params way xs ys box is)
 
 -- ---- a kick of a sorted list

@@ -36,7 +36,7 @@ before : (rank : Body → ℕ) (a b : Body) → precedes rank a b ≡ true → B
 before rank a b is = before_by (rank a) (rank b) a.id b.id is
 
 -- the two differ in rank or in id
-abbrev Differ : (Body → ℕ) → Body → Body → Type 0
+abbrev pub Differ : (Body → ℕ) → Body → Body → Type 0
 Differ rank a b = rank a ≡ rank b → a.id ≢ b.id
 
 after : (rank : Body → ℕ) (a b : Body) → Differ rank a b → precedes rank a b ≡ false → Before rank b a
@@ -141,7 +141,7 @@ each_by_place P [] at = tt
 each_by_place P (b ∷ bs) at = (at 0 b (omega arith), each_by_place P bs (λ k d below. at (suc k) d (omega arith)))
 
 -- each body differs from all behind it
-abbrev Apart : (Body → ℕ) → List Body → Type 0
+abbrev pub Apart : (Body → ℕ) → List Body → Type 0
 Apart rank [] = Unit {0}
 Apart rank (b ∷ bs) = Each (Differ rank b) bs × Apart rank bs
 
@@ -214,7 +214,7 @@ apart_by_count rank (b ∷ bs) most =
       apart_by_count rank bs (λ r i. omega (arith, most r i, alike-cons rank r i b bs)),
     )
 
-apart_permuted : (rank : Body → ℕ) (xs ys : List Body) → IsPermutation xs ys → Ordered rank ys → Apart rank xs
+pub apart_permuted : (rank : Body → ℕ) (xs ys : List Body) → IsPermutation xs ys → Ordered rank ys → Apart rank xs
 apart_permuted rank xs ys is order =
     apart_by_count rank xs
     (λ r i. omega (arith, sum_by-IsPermutation (λ b. mark (eqb (rank b) r && eqb b.id i)) xs ys is, at_most_one rank r i ys order))

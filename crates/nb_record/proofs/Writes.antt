@@ -76,6 +76,23 @@ word_part : (k : ℕ) (bytes : List ℕ) → little_number 8 (take 8 (drop k byt
 unfolding word
 word_part k bytes = little_from-take 0 8 8 (drop k bytes) (omega arith)
 
+short_part : (k : ℕ) (bytes : List ℕ) → little_number 4 (take 4 (drop k bytes)) ≡ short k bytes
+unfolding short
+short_part k bytes = little_from-take 0 4 4 (drop k bytes) (omega arith)
+
+-- a part of a piece, before what stands behind the piece
+part_front : (k n : ℕ) (p rest : List ℕ) → k + n ≤ length p → take n (drop k (p ++ rest)) ≡ take n (drop k p)
+part_front k n p rest within =
+    ap (take n) (drop-append-le k p rest (omega arith)) ∙ take-append-le n (drop k p) rest (omega (arith, length-drop k p))
+
+pub word_front : (k : ℕ) (p rest : List ℕ) → k + 8 ≤ length p → word k (p ++ rest) ≡ word k p
+word_front k p rest within =
+    sym (word_part k (p ++ rest)) ∙ ap (little_number 8) (part_front k 8 p rest within) ∙ word_part k p
+
+pub short_front : (k : ℕ) (p rest : List ℕ) → k + 4 ≤ length p → short k (p ++ rest) ≡ short k p
+short_front k p rest within =
+    sym (short_part k (p ++ rest)) ∙ ap (little_number 4) (part_front k 4 p rest within) ∙ short_part k p
+
 pub word_before : (at : ℕ) (piece bytes : List ℕ) (k : ℕ) → at ≤ length bytes → k + 8 ≤ at → word k (written at piece bytes) ≡ word k bytes
 word_before at piece bytes k within before =
     sym (word_part k (written at piece bytes)) ∙ ap (little_number 8) (part_before at piece bytes k 8 within before) ∙ word_part k bytes

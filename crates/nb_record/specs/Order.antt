@@ -1,10 +1,12 @@
 -- The order of bodies in a file, and the file that holds them.
-use Rattle.std.specs.Prelude.{◌≡◌, ◌≢◌, ℕ, ◌+◌, ◌-◌, ◌*◌, ◌/◌, ◌%◌, ◌^◌, ◌<◌, ◌==◌, min, Bool, true, ◌&&◌, ◌||◌, nat_lt, if◌then◌else◌, List, [], ◌∷◌, length, take, drop, slice_get, Some, AllPairs}
+use Rattle.std.specs.Prelude.{◌≡◌, ◌≢◌, ℕ, ◌+◌, ◌-◌, ◌*◌, ◌/◌, ◌%◌, ◌^◌, ◌<◌, ◌==◌, min, Bool, true, ◌&&◌, ◌||◌, nat_lt, if◌then◌else◌, List, [], ◌∷◌, length, slice_get, Some, AllPairs}
+use Rattle.nb_model.specs.declared.body.V3.{V3}
 use Rattle.nb_model.specs.declared.body.Body.{Body}
 use Rattle.nb_key.specs.Morton.{morton_key}
-use Rattle.nb_record.specs.declared.sizes.TheConstants.{PAGE_SIZE, BODIES_PER_PAGE}
+use Rattle.nb_host.specs.Page.{page_start, page_of}
+use Rattle.nb_record.specs.declared.sizes.TheConstants.{BODIES_PER_PAGE}
 use Rattle.nb_record.specs.Pages.{page_count, IsBodyPage}
-use Rattle.nb_record.specs.Records.{body_record, body_of, IsBodyRecord}
+use Rattle.nb_record.specs.Records.{body_record, body_of, kick_of, IsBodyRecord}
 
 -- ---- the order
 
@@ -43,10 +45,6 @@ IsSortedByRank rank (b ∷ c ∷ cs) = (precedes rank b c ≡ true) × IsSortedB
 
 -- ---- the file
 
--- page p of a file, counted from 0
-abbrev pub page_of : List ℕ → ℕ → List ℕ
-page_of file p = take PAGE_SIZE (drop (PAGE_SIZE * p) file)
-
 -- how many pages so many bodies fill
 abbrev pub pages_for : ℕ → ℕ
 pages_for count = (count + (BODIES_PER_PAGE - 1)) / BODIES_PER_PAGE
@@ -60,10 +58,22 @@ abbrev pub record_of : List ℕ → ℕ → List ℕ
 record_of file j = body_record (j % BODIES_PER_PAGE) (page_of file (j / BODIES_PER_PAGE))
 
 -- The file holds these bodies, in this order: it has exactly the pages for them, each of the form and with its count of
--- records, and the records say the bodies.
+-- records, and record by record they say the bodies, with any kicks. Bytes behind the last record of a page may be any.
 pub record HoldsBodies (file : List ℕ) (bodies : List Body) : Type 0 where
-  pub whole : length file ≡ PAGE_SIZE * pages_for (length bodies)
+  pub whole : length file ≡ page_start (pages_for (length bodies))
   pub pages : (p : ℕ) → p < pages_for (length bodies) → IsBodyPage p (page_of file p)
   pub counts : (p : ℕ) → p < pages_for (length bodies) → page_count (page_of file p) ≡ count_on (length bodies) p
   pub records : (j : ℕ) → j < length bodies → IsBodyRecord (record_of file j)
   pub held : (j : ℕ) → j < length bodies → slice_get bodies j ≡ Some (body_of (record_of file j))
+
+-- The file holds these bodies, in this order, each with the kick that it has here.
+pub record HoldsKickedBodies (file : List ℕ) (kick : Body → V3) (list : List Body) : Type 0 where
+  pub bodies : HoldsBodies file list
+  pub kicks : (j : ℕ) (b : Body) → slice_get list j ≡ Some b → kick_of (record_of file j) ≡ kick b
+
+-- The file holds n bodies, in Morton order.
+pub record HoldsMortonOrder (file : List ℕ) (n : ℕ) : Type 0 where
+  pub list : List Body
+  pub bodies : HoldsBodies file list
+  pub count : length list ≡ n
+  pub sorted : IsSortedByRank by_key list

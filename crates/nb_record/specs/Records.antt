@@ -1,19 +1,20 @@
 -- The records of a page, behind its header.
 --
 -- A body's record: 0 to 7 the id; 8 to 11 the mass; 12 to 15 the flag, 1 for a body that has left the box and else 0;
--- 16 to 39 the position; 40 to 63 the velocity.
+-- 16 to 39 the position; 40 to 63 the velocity; 64 to 87 the kick that the body got last.
 --
 -- A cell's record: 0 to 7 the key; 8 to 15 the mass; 16 to 39 the centre; 40 to 47 the number of its first body; 48 to 55
 -- the count of its bodies; 56 to 63 the kids, a bit for each octant that isn't empty, and 0 for a leaf.
 use Rattle.std.specs.Prelude.{◌≡◌, ℕ, zero, suc, ◌+◌, ◌*◌, ◌^◌, ◌<◌, ◌≤◌, ◌==◌, if◌then◌else◌, List, [], ◌∷◌, ◌++◌, take, drop, FitsSigned}
 use Rattle.std.specs.Int.{w64, cast_unsigned}
 use Rattle.std.specs.List.{flat_map}
+use Rattle.nb_model.specs.declared.body.V3.{V3}
 use Rattle.nb_model.specs.declared.body.Body.{Body}
-use Rattle.nb_model.specs.Limits.{deepest_level, most_bodies}
-use Rattle.nb_model.specs.Valid.{IsInBox, IsValidBody}
+use Rattle.nb_model.specs.Limits.{deepest_level, kick_limit, most_bodies}
+use Rattle.nb_model.specs.Valid.{IsInBox, IsBelow, IsValidBody}
 use Rattle.nb_key.specs.Morton.{IsKey}
 use Rattle.nb_record.specs.declared.cell.Cell.{Cell}
-use Rattle.nb_record.specs.declared.sizes.TheConstants.{HEADER_SIZE, BODY_SIZE, CELL_SIZE}
+use Rattle.nb_record.specs.declared.sizes.TheConstants.{HEADER_SIZE, BODY_SIZE, CELL_SIZE, KICK_AT}
 use Rattle.nb_record.specs.Fields.{word, short, signed_word, word_bytes, short_bytes}
 use Rattle.nb_record.specs.Pages.{page_count}
 
@@ -33,16 +34,29 @@ body_of bytes = record {
   v = record { x = signed_word 40 bytes; y = signed_word 48 bytes; z = signed_word 56 bytes };
 }
 
+-- the kick behind the body
+abbrev pub kick_of : List ℕ → V3
+kick_of bytes = record { x = signed_word KICK_AT bytes; y = signed_word (KICK_AT + 8) bytes; z = signed_word (KICK_AT + 16) bytes }
+
 -- the bytes are a body's record
 pub record IsBodyRecord (bytes : List ℕ) : Type 0 where
   pub flag : short 12 bytes ≤ 1
   pub body : IsValidBody (body_of bytes)
+  pub kick : IsBelow kick_limit (kick_of bytes)
 
--- the record of a body
+-- the bytes of a body
 abbrev pub body_bytes : Body → List ℕ
 body_bytes b =
     word_bytes b.id ++ short_bytes b.mass ++ short_bytes (if b.out then 1 else 0)
     ++ flat_map word_bytes (b.at.x ∷ b.at.y ∷ b.at.z ∷ cast_unsigned w64 b.v.x ∷ cast_unsigned w64 b.v.y ∷ cast_unsigned w64 b.v.z ∷ [])
+
+-- the bytes of a kick
+abbrev pub kick_bytes : V3 → List ℕ
+kick_bytes kick = flat_map word_bytes (cast_unsigned w64 kick.x ∷ cast_unsigned w64 kick.y ∷ cast_unsigned w64 kick.z ∷ [])
+
+-- the record of a body with its kick
+abbrev pub record_bytes : Body → V3 → List ℕ
+record_bytes b kick = body_bytes b ++ kick_bytes kick
 
 -- the first n bodies of a page
 unfoldable pub first_bodies : ℕ → List ℕ → List Body

@@ -1,12 +1,11 @@
 -- A table of cells in a file of pages (the hash of Warren and Salmon 1993): the low bits of a cell's key name the page at
 -- which the chain of pages begins that holds it.
-use Rattle.std.specs.Prelude.{◌≡◌, ◌≢◌, ℕ, zero, suc, ◌*◌, ◌%◌, ◌^◌, ◌<◌, ◌≤◌, ◌==◌, if◌then◌else◌, List, [], ◌∷◌, length, filter, All, IsPermutation}
+use Rattle.std.specs.Prelude.{◌≡◌, ◌≢◌, ℕ, zero, suc, ◌%◌, ◌^◌, ◌<◌, ◌≤◌, ◌==◌, if◌then◌else◌, List, [], ◌∷◌, length, filter, All, IsPermutation}
 use Rattle.std.specs.List.{flat_map}
 use Rattle.nb_record.specs.declared.cell.Cell.{Cell}
-use Rattle.nb_record.specs.declared.sizes.TheConstants.{PAGE_SIZE}
 use Rattle.nb_record.specs.Pages.{page_next, IsCellPage}
 use Rattle.nb_record.specs.Records.{cells_of, IsCell}
-use Rattle.nb_record.specs.Order.{page_of}
+use Rattle.nb_host.specs.Page.{page_start, page_of}
 
 -- the number of the page that follows page p of a file, 0 for none
 abbrev pub next_of : List ℕ → ℕ → ℕ
@@ -32,7 +31,7 @@ pub record IsNextOnce (file : List ℕ) (pages q : ℕ) : Type 0 where
 -- the file's. The pages below 2 ^ bits begin the chains, and each other follows exactly one. The chain that begins at
 -- page h holds exactly the cells whose key has h as its low bits, each once.
 pub record IsCellTable (file : List ℕ) (bits pages : ℕ) (cells : List Cell) : Type 0 where
-  pub whole : length file ≡ PAGE_SIZE * pages
+  pub whole : length file ≡ page_start pages
   pub begins : 2 ^ bits ≤ pages
   pub forms : (p : ℕ) → p < pages → IsCellPage p (page_of file p)
   pub records : (p : ℕ) → p < pages → All IsCell (cells_of (page_of file p))

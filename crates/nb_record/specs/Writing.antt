@@ -1,6 +1,8 @@
 -- What the writers leave of a page.
-use Rattle.std.specs.Prelude.{ℕ, ◌+◌, ◌*◌, List, replicate}
-use Rattle.nb_record.specs.declared.sizes.TheConstants.{PAGE_SIZE, HEADER_SIZE}
+use Rattle.std.specs.Prelude.{◌≡◌, ℕ, ◌+◌, ◌-◌, ◌*◌, ◌<◌, List, drop, replicate, All}
+use Rattle.nb_host.specs.declared.page_name.TheConstants.{PAGE_SIZE}
+use Rattle.nb_record.specs.declared.sizes.TheConstants.{HEADER_SIZE}
+use Rattle.nb_host.specs.Page.{page_of, HasPage}
 use Rattle.nb_record.specs.Fields.{word_bytes, written}
 use Rattle.nb_record.specs.Pages.{page_count}
 
@@ -16,3 +18,19 @@ empty_page page = written 0 (word_bytes page) zero_page
 abbrev pub with_record : ℕ → List ℕ → List ℕ → List ℕ
 with_record size piece bytes =
     written 8 (word_bytes (page_count bytes + 1)) (written (HEADER_SIZE + size * page_count bytes) piece bytes)
+
+-- where the last of a page's records of this size ends
+abbrev pub records_end : ℕ → List ℕ → ℕ
+records_end size bytes = HEADER_SIZE + size * page_count bytes
+
+-- the bytes behind the last of a page's records of this size are zeros
+abbrev pub IsZeroPadded : ℕ → List ℕ → Type 0
+IsZeroPadded size bytes = drop (records_end size bytes) bytes ≡ replicate (PAGE_SIZE - records_end size bytes) 0
+
+-- each page of a file, with records of this size, is
+abbrev pub IsZeroPaddedFile : ℕ → List ℕ → Type 0
+IsZeroPaddedFile size file = (p : ℕ) → HasPage file p → IsZeroPadded size (page_of file p)
+
+-- each number of a list is a byte
+abbrev pub AreBytes : List ℕ → Type 0
+AreBytes bytes = All (λ byte. byte < 256) bytes

@@ -2,15 +2,16 @@
 
 ghost use Rattle.std.specs.Prelude.{◌≡◌, ◌<◌, ◌≤◌, ◌↔◌, IsTrue, length, MatchOption, IfOk};
 ghost use Rattle.nb_model.specs.declared.body.Body.{Body};
-ghost use Rattle.nb_model.specs.Limits.{speed_limit};
+ghost use Rattle.nb_model.specs.Limits.{kick_limit, speed_limit};
 ghost use Rattle.nb_model.specs.Valid.{IsInBox, IsBelow, IsValidBody};
 ghost use Rattle.nb_record.specs.Pages.{page_count, read_body_page, IsBodyPage};
-ghost use Rattle.nb_record.specs.Records.{body_record, body_of, IsBodyRecord};
+ghost use Rattle.nb_record.specs.Records.{body_record, body_of, kick_of, IsBodyRecord};
 
-use crate::fields::{short_at, signed_word_at, word_at};
+use crate::fields::{WORD, short_at, signed_word_at, word_at};
 use crate::header::{COUNT_AT, NEXT_AT, NO_PAGE, NUMBER_AT, PageError, ZEROS_AT};
-use crate::sizes::{BODIES_PER_PAGE, BODY_SIZE, HEADER_SIZE, PAGE_SIZE};
-use nb_model::{At, BOX_SIDE, Body, SPEED_LIMIT, V3};
+use crate::sizes::{BODIES_PER_PAGE, BODY_SIZE, HEADER_SIZE, KICK_AT};
+use nb_host::PAGE_SIZE;
+use nb_model::{At, BOX_SIDE, Body, KICK_LIMIT, SPEED_LIMIT, V3};
 use std::marker::Model;
 
 // The places of a body's fields, in bytes.
@@ -35,7 +36,7 @@ const VELOCITY_Z_AT: usize = 56;
 /// The flag of a body that has left the box. Any other's is 0.
 pub(crate) const OUT: u32 = 1;
 
-/// A page of bodies whose header is of the form, in 4096 borrowed bytes. A contract sees it as the bytes.
+/// A page of bodies whose header is of the form, in the borrowed bytes of a page. A contract sees it as the bytes.
 #[derive(Debug, Drop)]
 pub struct BodyPage<'a> {
     bytes: &'a [u8],
@@ -43,7 +44,8 @@ pub struct BodyPage<'a> {
 
 impl<'a> Model for BodyPage<'a> {
     ghost use Rattle.std.specs.Prelude.{◌≡◌, ◌≤◌, ℕ, List, length};
-    ghost use Rattle.nb_record.specs.declared.sizes.TheConstants.{PAGE_SIZE, BODIES_PER_PAGE};
+    ghost use Rattle.nb_host.specs.declared.page_name.TheConstants.{PAGE_SIZE};
+    ghost use Rattle.nb_record.specs.declared.sizes.TheConstants.{BODIES_PER_PAGE};
     ghost use Rattle.nb_record.specs.Fields.{word};
 
     ghost Value = { List ℕ };
@@ -54,7 +56,7 @@ impl<'a> Model for BodyPage<'a> {
 }
 
 impl<'a> BodyPage<'a> {
-    /// The page in 4096 bytes, which is to have this number; else the first field of the header that isn't of
+    /// The page in these bytes, which is to have this number; else the first field of the header that isn't of
     /// the form. The records aren't looked at.
     pub fn check(bytes: &'a [u8], page: u64) -> Result<BodyPage<'a>, PageError>
         requires { length bytes.now ≡ PAGE_SIZE }
@@ -84,13 +86,23 @@ impl<'a> BodyPage<'a> {
         word_at(self.bytes, COUNT_AT)
     }
 
-    /// The body of record i, where the record is of the form and its body valid.
+    /// The body of record i, where the record is of the form, its body valid and its kick in range.
     pub fn body(&self, i: u64) -> Option<Body>
         requires { i < page_count self.now }
         ensures { MatchOption result (¬ IsBodyRecord (body_record i self.now))
             (λ body. IsBodyRecord (body_record i self.now) × (body ≡ body_of (body_record i self.now))) }
     {
         read_body(self.record(i))
+    }
+
+    /// The kick of record i, in box units a tick, of a record that has a body.
+    pub fn kick(&self, i: u64) -> V3
+        requires within { i < page_count self.now }
+        requires form { IsBodyRecord (body_record i self.now) }
+        ensures value { result ≡ kick_of (body_record i self.now) }
+        ensures range { IsBelow kick_limit result }
+    {
+        read_kick(self.record(i))
     }
 
     /// The bytes of record i.
@@ -105,7 +117,7 @@ impl<'a> BodyPage<'a> {
     }
 }
 
-/// The body of a record's bytes, where they are of the form and it is valid.
+/// The body of a record's bytes, where they are of the form, it is valid and its kick in range.
 fn read_body(bytes: &[u8]) -> Option<Body>
     requires { length bytes.now ≡ BODY_SIZE }
     ensures { MatchOption result (¬ IsBodyRecord bytes.now)
@@ -133,14 +145,29 @@ fn read_body(bytes: &[u8]) -> Option<Body>
     if !is_valid(&body) {
         return None;
     }
+    if !is_below(&read_kick(bytes), KICK_LIMIT) {
+        return None;
+    }
     Some(body)
+}
+
+/// The kick of a record's bytes, of any size.
+fn read_kick(bytes: &[u8]) -> V3
+    requires { length bytes.now ≡ BODY_SIZE }
+    ensures { result ≡ kick_of bytes.now }
+{
+    V3 {
+        x: signed_word_at(bytes, KICK_AT),
+        y: signed_word_at(bytes, KICK_AT + WORD),
+        z: signed_word_at(bytes, KICK_AT + 2 * WORD),
+    }
 }
 
 /// Whether a body is valid.
 fn is_valid(body: &Body) -> bool
     ensures { IsTrue result ↔ IsValidBody body.now }
 {
-    1 <= body.mass && is_in_box(&body.at) && (body.out || is_slow(&body.v))
+    1 <= body.mass && is_in_box(&body.at) && (body.out || is_below(&body.v, SPEED_LIMIT))
 }
 
 /// Whether each coordinate is below the side of the box.
@@ -150,11 +177,9 @@ fn is_in_box(at: &At) -> bool
     at.x < BOX_SIDE && at.y < BOX_SIDE && at.z < BOX_SIDE
 }
 
-/// Whether a velocity is one of a body in the box.
-fn is_slow(v: &V3) -> bool
-    ensures { IsTrue result ↔ IsBelow speed_limit v.now }
+/// Whether each axis is, in size, below a limit.
+fn is_below(v: &V3, limit: u64) -> bool
+    ensures { IsTrue result ↔ IsBelow limit v.now }
 {
-    v.x.unsigned_abs() < SPEED_LIMIT
-        && v.y.unsigned_abs() < SPEED_LIMIT
-        && v.z.unsigned_abs() < SPEED_LIMIT
+    v.x.unsigned_abs() < limit && v.y.unsigned_abs() < limit && v.z.unsigned_abs() < limit
 }

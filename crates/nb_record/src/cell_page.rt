@@ -9,11 +9,12 @@ ghost use Rattle.nb_record.specs.Looking.{place_of_key};
 use crate::cell::{CellView, KEY_AT};
 use crate::fields::word_at;
 use crate::header::{COUNT_AT, NEXT_AT, NO_PAGE, NUMBER_AT, PageError, ZEROS_AT};
-use crate::sizes::{CELL_SIZE, CELLS_PER_PAGE, HEADER_SIZE, PAGE_SIZE};
+use crate::sizes::{CELL_SIZE, CELLS_PER_PAGE, HEADER_SIZE};
+use nb_host::PAGE_SIZE;
 use nb_key::Key;
 use std::marker::Model;
 
-/// A page of cells whose header is of the form, in 4096 borrowed bytes. A contract sees it as the bytes.
+/// A page of cells whose header is of the form, in the borrowed bytes of a page. A contract sees it as the bytes.
 #[derive(Debug, Drop)]
 pub struct CellPage<'a> {
     bytes: &'a [u8],
@@ -21,7 +22,8 @@ pub struct CellPage<'a> {
 
 impl<'a> Model for CellPage<'a> {
     ghost use Rattle.std.specs.Prelude.{◌≡◌, ◌≤◌, ℕ, List, length};
-    ghost use Rattle.nb_record.specs.declared.sizes.TheConstants.{PAGE_SIZE, CELLS_PER_PAGE};
+    ghost use Rattle.nb_host.specs.declared.page_name.TheConstants.{PAGE_SIZE};
+    ghost use Rattle.nb_record.specs.declared.sizes.TheConstants.{CELLS_PER_PAGE};
     ghost use Rattle.nb_record.specs.Fields.{word};
 
     ghost Value = { List ℕ };
@@ -32,7 +34,7 @@ impl<'a> Model for CellPage<'a> {
 }
 
 impl<'a> CellPage<'a> {
-    /// The page in 4096 bytes, which is to have this number; else the first field of the header that isn't of
+    /// The page in these bytes, which is to have this number; else the first field of the header that isn't of
     /// the form. The records aren't looked at.
     pub fn check(bytes: &'a [u8], page: u64) -> Result<CellPage<'a>, PageError>
         requires { length bytes.now ≡ PAGE_SIZE }

@@ -72,8 +72,8 @@ pub fn law_same_step()
     ensures kick { (params : Params) (way : Way) (a b : List Body)
         → All (λ c. IsInBox c.at) a → IsPermutation a b
         → IsPermutation (kick params way a) (kick params way b) }
-    ensures drift { (way : Way) (a b : List Body) → IsPermutation a b
-        → IsPermutation (drift way a) (drift way b) }
+    ensures drift { (params : Params) (way : Way) (a b : List Body) → IsPermutation a b
+        → IsPermutation (drift params way a) (drift params way b) }
     ensures step { (params : Params) (way : Way) (a b : List Body)
         → All (λ c. IsInBox c.at) a → IsPermutation a b
         → IsPermutation (step params way a) (step params way b) }

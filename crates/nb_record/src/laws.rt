@@ -2,24 +2,30 @@
 //! the law, for all pages, cells, bodies and files.
 
 ghost use Rattle.std.specs.Prelude.{◌≡◌, ◌≢◌, ◌↔◌, ℕ, ◌-◌, ◌/◌, ◌%◌, ◌^◌, ◌<◌, ◌≤◌, List, [], ◌∷◌, ◌++◌};
-ghost use Rattle.std.specs.Prelude.{length, map, slice_get, All, Contains, IsPermutation};
+ghost use Rattle.std.specs.Prelude.{length, map, take, slice_get, All, Contains, IsPermutation};
 ghost use Rattle.std.specs.List.Sorted.{IsStrictlyIncreasing};
+ghost use Rattle.nb_model.specs.declared.body.V3.{V3};
 ghost use Rattle.nb_model.specs.declared.body.Body.{Body};
-ghost use Rattle.nb_model.specs.Valid.{IsValidBody};
+ghost use Rattle.nb_model.specs.Limits.{kick_limit};
+ghost use Rattle.nb_model.specs.Valid.{IsBelow, IsValidBody};
 ghost use Rattle.nb_model.specs.Octree.{in_octant};
+ghost use Rattle.nb_model.specs.Leapfrog.{in_box};
 ghost use Rattle.nb_record.specs.declared.cell.Cell.{Cell};
 ghost use Rattle.nb_record.specs.Fields.{word};
-ghost use Rattle.nb_record.specs.Pages.{page_count, read_cell_page, read_body_page, IsCellPage, IsBodyPage};
-ghost use Rattle.nb_record.specs.Records.{body_record, body_bytes, body_of, bodies_of};
+ghost use Rattle.nb_record.specs.Pages.{page_count, page_next, read_cell_page, read_body_page, IsCellPage, IsBodyPage};
+ghost use Rattle.nb_record.specs.Records.{body_record, record_bytes, body_of, kick_of, bodies_of};
 ghost use Rattle.nb_record.specs.Records.{IsBodyRecord, FitsBodyRecord};
 ghost use Rattle.nb_record.specs.Records.{cell_record, cell_bytes, cell_of, cells_of, FitsCellRecord};
 ghost use Rattle.nb_record.specs.Looking.{place_of_key};
-ghost use Rattle.nb_record.specs.Order.{sorted_by, HaveDifferentIds, IsSortedByRank};
-ghost use Rattle.nb_record.specs.Order.{page_of, pages_for, count_on, HoldsBodies};
+ghost use Rattle.nb_record.specs.Order.{by_key, sorted_by, HaveDifferentIds, IsSortedByRank};
+ghost use Rattle.nb_host.specs.Page.{page_of};
+ghost use Rattle.nb_record.specs.Order.{pages_for, count_on, HoldsBodies, HoldsKickedBodies};
+ghost use Rattle.nb_record.specs.Writing.{IsZeroPadded, IsZeroPaddedFile, AreBytes};
 ghost use Rattle.nb_record.specs.Cells.{kids_of};
 ghost use Rattle.nb_record.specs.Table.{next_of, chain, cells_on_chain, IsCellTable};
 
-use crate::sizes::{BODIES_PER_PAGE, BODY_SIZE, CELL_SIZE, CELLS_PER_PAGE, HEADER_SIZE, PAGE_SIZE};
+use crate::sizes::{BODIES_PER_PAGE, BODY_SIZE, CELL_SIZE, CELLS_PER_PAGE, HEADER_SIZE, KICK_AT};
+use nb_host::PAGE_SIZE;
 
 /// A check answers the page exactly where its header is of the form.
 pub fn law_checks()
@@ -35,11 +41,15 @@ pub fn law_cells()
     ensures size { (cell : Cell) → length (cell_bytes cell) ≡ CELL_SIZE }
 {}
 
-/// The record of a body says the body, and is of the form where the body is valid.
+/// The record of a body and a kick says exactly these, and is of the form where the body is valid.
 pub fn law_bodies()
-    ensures value { (body : Body) → FitsBodyRecord body → body_of (body_bytes body) ≡ body }
-    ensures form { (body : Body) → IsValidBody body → FitsBodyRecord body → IsBodyRecord (body_bytes body) }
-    ensures size { (body : Body) → length (body_bytes body) ≡ BODY_SIZE }
+    ensures body { (body : Body) (kick : V3) → FitsBodyRecord body
+        → body_of (record_bytes body kick) ≡ body }
+    ensures kick { (body : Body) (kick : V3) → IsBelow kick_limit kick
+        → kick_of (record_bytes body kick) ≡ kick }
+    ensures form { (body : Body) (kick : V3) → IsValidBody body → FitsBodyRecord body
+        → IsBelow kick_limit kick → IsBodyRecord (record_bytes body kick) }
+    ensures size { (body : Body) (kick : V3) → length (record_bytes body kick) ≡ BODY_SIZE }
 {}
 
 /// The sorted list has each body once. Where the ids differ, as ids that rise do, each body precedes the next
@@ -74,6 +84,29 @@ pub fn law_page_bodies()
     ensures count { (bytes : List ℕ) → length (bodies_of bytes) ≡ page_count bytes }
     ensures body { (bytes : List ℕ) (i : ℕ) → i < page_count bytes
         → slice_get (bodies_of bytes) i ≡ Some (body_of (body_record i bytes)) }
+{}
+
+/// Where the bytes behind the last record are zeros, a file of bodies is a function of its bodies and their
+/// kicks, and a page of cells of its number, its next page and its cells.
+pub fn law_zero_padded()
+    ensures bodies { (a b : List ℕ) (kick : Body → V3) (bodies : List Body) → AreBytes a → AreBytes b
+        → IsZeroPaddedFile BODY_SIZE a → IsZeroPaddedFile BODY_SIZE b
+        → HoldsKickedBodies a kick bodies → HoldsKickedBodies b kick bodies → a ≡ b }
+    ensures cells { (page : ℕ) (a b : List ℕ) → AreBytes a → AreBytes b
+        → length a ≡ PAGE_SIZE → length b ≡ PAGE_SIZE → IsCellPage page a → IsCellPage page b
+        → IsZeroPadded CELL_SIZE a → IsZeroPadded CELL_SIZE b
+        → page_next a ≡ page_next b → cells_of a ≡ cells_of b → a ≡ b }
+{}
+
+/// The bodies that a file holds are valid. A list in Morton order is its own sorted list, and its bodies in
+/// the box are its front.
+pub fn law_morton_order()
+    ensures valid { (file : List ℕ) (bodies : List Body) → HoldsBodies file bodies
+        → All IsValidBody bodies }
+    ensures sorted { (rank : Body → ℕ) (bodies : List Body) → IsSortedByRank rank bodies
+        → bodies ≡ sorted_by rank bodies }
+    ensures front { (bodies : List Body) → IsSortedByRank by_key bodies
+        → take (length (in_box bodies)) bodies ≡ in_box bodies }
 {}
 
 /// Body j of a file stands on one of the file's pages, at one of the page's records. A file holds one list.
@@ -138,10 +171,11 @@ pub fn law_kids()
     ensures some { (level : ℕ) (body : Body) (bodies : List Body) → kids_of level (body ∷ bodies) ≢ 0 }
 {}
 
-/// The sizes of a page and of its parts, in bytes, and the most records of a page.
+/// The sizes of a page's parts, in bytes, where a body's kick stands in its record, and the most records of a
+/// page.
 pub fn law_sizes()
-    ensures page { PAGE_SIZE ≡ 4096 }
     ensures header { HEADER_SIZE ≡ 32 }
-    ensures records { (BODY_SIZE ≡ 64) × (CELL_SIZE ≡ 64) }
-    ensures most { (BODIES_PER_PAGE ≡ 63) × (CELLS_PER_PAGE ≡ 63) }
+    ensures records { (BODY_SIZE ≡ 88) × (CELL_SIZE ≡ 64) }
+    ensures kick { KICK_AT ≡ 64 }
+    ensures most { (BODIES_PER_PAGE ≡ 46) × (CELLS_PER_PAGE ≡ 63) }
 {}

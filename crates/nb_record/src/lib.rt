@@ -32,12 +32,12 @@ pub use force_laws::{law_cell_force, law_same_force, law_same_step, law_vector_s
 pub use header::PageError;
 pub use laws::{
     law_bodies, law_body_files, law_cells, law_chains, law_checks, law_kids, law_lookups,
-    law_page_bodies, law_page_cells, law_sizes, law_sorted_by,
+    law_morton_order, law_page_bodies, law_page_cells, law_sizes, law_sorted_by, law_zero_padded,
 };
 pub use lender::Lender;
 pub use order_laws::{law_in_cell, law_octant_sums, law_order};
 pub use search_page::look;
-pub use sizes::{BODIES_PER_PAGE, BODY_SIZE, CELL_SIZE, CELLS_PER_PAGE, HEADER_SIZE, PAGE_SIZE};
+pub use sizes::{BODIES_PER_PAGE, BODY_SIZE, CELL_SIZE, CELLS_PER_PAGE, HEADER_SIZE, KICK_AT};
 pub use tree::Tree;
 pub use tree_laws::{
     law_cell_bodies, law_kicked_tree, law_kid_bits, law_same_table, law_same_tree, law_tree_cells,

@@ -3,9 +3,10 @@
 ghost use Rattle.std.specs.Prelude.{◌==◌, if◌then◌else◌, Some, None};
 
 use crate::{
-    BodyPage, Cell, CellPage, Lender, Look, PAGE_SIZE, PageError, add_body, add_cell,
-    begin_body_page, begin_cell_page, look, set_next,
+    BodyPage, Cell, CellPage, Lender, Look, PageError, add_body, add_cell, begin_body_page,
+    begin_cell_page, look, set_next,
 };
+use nb_host::PAGE_SIZE;
 use nb_key::Key;
 use nb_model::{At, Body, V3};
 use std::process::Abort;
@@ -36,10 +37,10 @@ impl<'a> Lender for OnePage<'a> {
     }
 }
 
-/// What a look answers, in one number each: the mass of a cell that is found, a page's number, or 0.
+/// What a look answers, with the cell that it found.
 #[derive(PartialEq, Eq, Debug, Drop)]
 enum Answer {
-    Found(u64),
+    Found(Cell),
     Next(u64),
     Wants(u64),
     Gone,
@@ -50,7 +51,14 @@ enum Answer {
 fn look_on_page_2(page: u64, bytes: &[u8; PAGE_SIZE], key: Key) -> Answer {
     let lender = OnePage { page, bytes };
     match look(&lender, key, 2) {
-        Look::Found(cell) => Answer::Found(cell.mass()),
+        Look::Found(cell) => Answer::Found(Cell {
+            key: cell.key(),
+            mass: cell.mass(),
+            centre: cell.centre(),
+            first: cell.first(),
+            count: cell.count(),
+            kids: cell.kids(),
+        }),
         Look::Next(next) => Answer::Next(next),
         Look::Wants(wanted) => Answer::Wants(wanted),
         Look::Gone => Answer::Gone,
@@ -73,10 +81,10 @@ fn a_look_for_a_key(rt: HostRuntime) -> Result<(), Fail> {
         kids: 0,
     };
     add_cell(&mut bytes, &cell);
-    assert_eq!(rt; look_on_page_2(2, &bytes, here), Answer::Found(3));
+    assert_eq!(rt; look_on_page_2(2, &bytes, here), Answer::Found(cell));
     assert_eq!(rt; look_on_page_2(2, &bytes, other), Answer::Gone);
     set_next(&mut bytes, 5);
-    assert_eq!(rt; look_on_page_2(2, &bytes, here), Answer::Found(3));
+    assert_eq!(rt; look_on_page_2(2, &bytes, here), Answer::Found(cell));
     assert_eq!(rt; look_on_page_2(2, &bytes, other), Answer::Next(5));
     bytes[8] = 64;
     assert_eq!(rt; look_on_page_2(2, &bytes, other), Answer::Bad(2));
@@ -95,7 +103,8 @@ fn a_body_on_a_page(rt: HostRuntime) -> Result<(), Fail> {
     };
     let mut bytes = [255; PAGE_SIZE];
     begin_body_page(&mut bytes, 4);
-    add_body(&mut bytes, &body);
+    let kick = V3 { x: 9, y: -2, z: 0 };
+    add_body(&mut bytes, &body, &kick);
     assert_eq!(rt;
         (bytes[0], bytes[8], bytes[32], bytes[40], bytes[48]),
         (4, 1, 7, 3, 5)
@@ -104,12 +113,26 @@ fn a_body_on_a_page(rt: HostRuntime) -> Result<(), Fail> {
         (bytes[71], bytes[72], bytes[79], bytes[80]),
         (0, 255, 255, 2)
     );
+    assert_eq!(rt;
+        (
+            bytes[96], bytes[103], bytes[104], bytes[111], bytes[119], bytes[120]
+        ),
+        (9, 0, 254, 255, 0, 0)
+    );
     let page = BodyPage::check(&bytes, 4)
         .ok()
         .ok_or("the page is of the form")?;
     assert_eq!(rt; page.count(), 1);
     assert!(rt; 0 < page.count());
     assert_eq!(rt; page.body(0), Some(body));
+    assert_eq!(rt; page.kick(0), kick);
+    bytes[103] = 16;
+    let page = BodyPage::check(&bytes, 4)
+        .ok()
+        .ok_or("the page is of the form")?;
+    assert!(rt; 0 < page.count());
+    assert_eq!(rt; page.body(0), None);
+    bytes[103] = 0;
     bytes[44] = 2;
     let page = BodyPage::check(&bytes, 4)
         .ok()

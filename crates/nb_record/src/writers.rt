@@ -1,21 +1,24 @@
 //! The writers of a page. Each changes its record, its count or its next page, and no other byte.
 
-ghost use Rattle.std.specs.Prelude.{◌≡◌, ℕ, ◌+◌, ◌<◌, ◌≤◌, [], ◌∷◌, ◌++◌, length, if◌then◌else◌};
-ghost use Rattle.nb_model.specs.Valid.{IsValidBody};
+ghost use Rattle.std.specs.Prelude.{◌≡◌, ℕ, ◌+◌, ◌-◌, ◌<◌, ◌≤◌, [], ◌∷◌, ◌++◌, length, if◌then◌else◌};
+ghost use Rattle.nb_model.specs.Limits.{kick_limit};
+ghost use Rattle.nb_model.specs.Valid.{IsBelow, IsValidBody};
 ghost use Rattle.nb_record.specs.Fields.{word_bytes, written};
 ghost use Rattle.nb_record.specs.Pages.{page_number, page_count, page_next, IsCellPage, IsBodyPage};
-ghost use Rattle.nb_record.specs.Records.{body_record, body_bytes, bodies_of, IsBodyRecord, FitsBodyRecord};
+ghost use Rattle.nb_record.specs.Records.{body_record, body_bytes, kick_bytes, record_bytes};
+ghost use Rattle.nb_record.specs.Records.{kick_of, bodies_of, IsBodyRecord, FitsBodyRecord};
 ghost use Rattle.nb_record.specs.Records.{cell_bytes, cells_of, FitsCellRecord};
-ghost use Rattle.nb_record.specs.Writing.{zero_page, empty_page, with_record};
+ghost use Rattle.nb_record.specs.Writing.{zero_page, empty_page, with_record, IsZeroPadded};
 
 use crate::body_page::{FLAG_AT, ID_AT, MASS_AT, OUT, X_AT};
 use crate::cell::Cell;
 use crate::fields::{put_short, put_word, put_words, word_at};
 use crate::header::{COUNT_AT, NEXT_AT, NUMBER_AT};
-use crate::sizes::{BODIES_PER_PAGE, BODY_SIZE, CELL_SIZE, CELLS_PER_PAGE, HEADER_SIZE, PAGE_SIZE};
-use nb_model::Body;
+use crate::sizes::{BODIES_PER_PAGE, BODY_SIZE, CELL_SIZE, CELLS_PER_PAGE, HEADER_SIZE, KICK_AT};
+use nb_host::PAGE_SIZE;
+use nb_model::{Body, V3};
 
-/// Makes 4096 bytes a page of bodies with this number and no body.
+/// Makes of a page's bytes a page of bodies with this number and no body.
 pub fn begin_body_page(into: &mut [u8], page: u64)
     requires { length into.old ≡ PAGE_SIZE }
     ensures bytes { into.new ≡ empty_page page }
@@ -23,12 +26,13 @@ pub fn begin_body_page(into: &mut [u8], page: u64)
     ensures form { IsBodyPage (page_number into.new) into.new }
     ensures count { page_count into.new ≡ 0 }
     ensures bodies { bodies_of into.new ≡ [] }
+    ensures padded { IsZeroPadded BODY_SIZE into.new }
 {
     clear(into);
     put_word(into, NUMBER_AT, page);
 }
 
-/// Makes 4096 bytes a page of cells with this number, no cell and no next page.
+/// Makes of a page's bytes a page of cells with this number, no cell and no next page.
 pub fn begin_cell_page(into: &mut [u8], page: u64)
     requires { length into.old ≡ PAGE_SIZE }
     ensures bytes { into.new ≡ empty_page page }
@@ -37,6 +41,7 @@ pub fn begin_cell_page(into: &mut [u8], page: u64)
     ensures next { page_next into.new ≡ 0 }
     ensures count { page_count into.new ≡ 0 }
     ensures cells { cells_of into.new ≡ [] }
+    ensures padded { IsZeroPadded CELL_SIZE into.new }
 {
     clear(into);
     put_word(into, NUMBER_AT, page);
@@ -53,6 +58,7 @@ pub fn set_next(into: &mut [u8], page: u64)
     ensures next { page_next into.new ≡ page }
     ensures count { page_count into.new ≡ page_count into.old }
     ensures cells { cells_of into.new ≡ cells_of into.old }
+    ensures padded { IsZeroPadded CELL_SIZE into.old → IsZeroPadded CELL_SIZE into.new }
 {
     put_word(into, NEXT_AT, page);
 }
@@ -68,27 +74,31 @@ pub fn add_cell(into: &mut [u8], cell: &Cell)
     ensures next { page_next into.new ≡ page_next into.old }
     ensures count { page_count into.new ≡ page_count into.old + 1 }
     ensures cells { cells_of into.new ≡ cells_of into.old ++ cell.now ∷ [] }
+    ensures padded { IsZeroPadded CELL_SIZE into.old → IsZeroPadded CELL_SIZE into.new }
 {
     let count = word_at(into, COUNT_AT);
     put_cell(into, HEADER_SIZE + CELL_SIZE * count as usize, cell);
     put_word(into, COUNT_AT, count + 1);
 }
 
-/// Adds a body behind those of a page that has room.
-pub fn add_body(into: &mut [u8], body: &Body)
+/// Adds a body with its kick, in box units a tick, behind those of a page that has room.
+pub fn add_body(into: &mut [u8], body: &Body, kick: &V3)
     requires size { length into.old ≡ PAGE_SIZE }
     requires form { IsBodyPage (page_number into.old) into.old }
     requires room { page_count into.old < BODIES_PER_PAGE }
-    ensures bytes { into.new ≡ with_record BODY_SIZE (body_bytes body.now) into.old }
+    requires kick { IsBelow kick_limit kick.now }
+    ensures bytes { into.new ≡ with_record BODY_SIZE (record_bytes body.now kick.now) into.old }
     ensures number { page_number into.new ≡ page_number into.old }
     ensures form { IsBodyPage (page_number into.new) into.new }
     ensures count { page_count into.new ≡ page_count into.old + 1 }
     ensures kept { (i : ℕ) → i < page_count into.old → body_record i into.new ≡ body_record i into.old }
     ensures valid { IsValidBody body.now → IsBodyRecord (body_record (page_count into.old) into.new) }
     ensures bodies { bodies_of into.new ≡ bodies_of into.old ++ body.now ∷ [] }
+    ensures kick { kick_of (body_record (page_count into.old) into.new) ≡ kick.now }
+    ensures padded { IsZeroPadded BODY_SIZE into.old → IsZeroPadded BODY_SIZE into.new }
 {
     let count = word_at(into, COUNT_AT);
-    put_body(into, HEADER_SIZE + BODY_SIZE * count as usize, body);
+    put_record(into, HEADER_SIZE + BODY_SIZE * count as usize, body, kick);
     put_word(into, COUNT_AT, count + 1);
 }
 
@@ -111,9 +121,19 @@ fn put_cell(into: &mut [u8], at: usize, cell: &Cell)
     put_words(into, at, &words);
 }
 
-/// Writes a body's record into the bytes from a place on.
-fn put_body(into: &mut [u8], at: usize, body: &Body)
+/// Writes the record of a body and its kick into the bytes from a place on.
+fn put_record(into: &mut [u8], at: usize, body: &Body, kick: &V3)
     requires { at + BODY_SIZE ≤ length into.old }
+    ensures bytes { into.new ≡ written at (record_bytes body.now kick.now) into.old }
+    ensures fits { FitsBodyRecord body.now }
+{
+    put_body(into, at, body);
+    put_kick(into, at + KICK_AT, kick);
+}
+
+/// Writes a body into the bytes from a place on.
+fn put_body(into: &mut [u8], at: usize, body: &Body)
+    requires { at + KICK_AT ≤ length into.old }
     ensures bytes { into.new ≡ written at (body_bytes body.now) into.old }
     ensures fits { FitsBodyRecord body.now }
 {
@@ -129,6 +149,19 @@ fn put_body(into: &mut [u8], at: usize, body: &Body)
         body.v.z.cast_unsigned(),
     ];
     put_words(into, at + X_AT, &words);
+}
+
+/// Writes a kick into the bytes from a place on.
+fn put_kick(into: &mut [u8], at: usize, kick: &V3)
+    requires { at + (BODY_SIZE - KICK_AT) ≤ length into.old }
+    ensures { into.new ≡ written at (kick_bytes kick.now) into.old }
+{
+    let words = [
+        kick.x.cast_unsigned(),
+        kick.y.cast_unsigned(),
+        kick.z.cast_unsigned(),
+    ];
+    put_words(into, at, &words);
 }
 
 /// The flag of a body.

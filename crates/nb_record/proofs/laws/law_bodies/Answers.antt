@@ -1,5 +1,5 @@
-use Rattle.nb_record.proofs.Rows.{body_round, body_form, body_size}
+use Rattle.nb_record.proofs.Rows.{record_body, record_kick, record_form, record_size}
 use Rattle.nb_record.proofs.laws.law_bodies.Goals as goal
 
 pub returns : goal.returns
-returns c = record { value = body_round; form = body_form; size = body_size }
+returns c = record { body = record_body; kick = record_kick; form = record_form; size = record_size }

@@ -4,7 +4,7 @@ use Rattle.nb_record.specs.Records.{cell_bytes}
 use Rattle.nb_record.specs.Pages.{page_number}
 use Rattle.nb_record.specs.Writing.{with_record}
 use Rattle.nb_record.proofs.Rows.{cell_room, cell_round}
-use Rattle.nb_record.proofs.Adding.{numbered_cells, number_kept, cell_page_added, word_kept, count_more, cells_added}
+use Rattle.nb_record.proofs.Adding.{numbered_cells, number_kept, cell_page_added, word_kept, count_more, cells_added, padded_added}
 use Rattle.nb_record.proofs.writers.add_cell.Goals as goal
 
 pub returns-clause-number : goal.returns-clause-number
@@ -33,3 +33,8 @@ pub returns-clause-cells : goal.returns-clause-cells
 returns-clause-cells c =
     let room = cell_room c.args.cell.now c.args.into.now c.requires.size c.requires.room in
     rw (c.put_word.ensures, c.put_cell.ensures.bytes, c.word_at-count.ensures) (cells_added (cell_bytes c.args.cell.now) c.args.into.now c.args.cell.now room (cell_round c.args.cell.now c.put_cell.ensures.fits))
+
+pub returns-clause-padded : goal.returns-clause-padded
+returns-clause-padded c =
+    let room = cell_room c.args.cell.now c.args.into.now c.requires.size c.requires.room in
+    λ padded. rw (c.put_word.ensures, c.put_cell.ensures.bytes, c.word_at-count.ensures) (padded_added CELL_SIZE (cell_bytes c.args.cell.now) c.args.into.now room padded)

@@ -1,6 +1,7 @@
 use Rattle.std.proofs.Common.{arith}
+use Rattle.nb_record.specs.declared.sizes.TheConstants.{CELL_SIZE}
 use Rattle.nb_record.specs.Writing.{empty_page}
-use Rattle.nb_record.proofs.Adding.{numbered_cells, empty_cells, empty_count, empty_next, empty_says_no_cell}
+use Rattle.nb_record.proofs.Adding.{numbered_cells, empty_cells, empty_count, empty_next, empty_says_no_cell, empty_padded}
 use Rattle.nb_record.proofs.writers.begin_cell_page.Goals as goal
 
 pub returns-clause-number : goal.returns-clause-number
@@ -17,3 +18,6 @@ returns-clause-next c = rw (c.put_word.ensures, c.clear.ensures) (empty_next c.a
 
 pub returns-clause-cells : goal.returns-clause-cells
 returns-clause-cells c = rw (c.put_word.ensures, c.clear.ensures) (empty_says_no_cell c.args.page)
+
+pub returns-clause-padded : goal.returns-clause-padded
+returns-clause-padded c = rw (c.put_word.ensures, c.clear.ensures) (empty_padded CELL_SIZE c.args.page)

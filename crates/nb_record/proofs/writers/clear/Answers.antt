@@ -1,7 +1,7 @@
 use Rattle.std.proofs.Common.{◌≡◌, ◌++◌, drop, ap, ◌∙◌, arith}
 use Rattle.std.specs.Prelude.{replicate}
 use Rattle.std.proofs.lemmas.List.{append-nil, drop_all}
-use Rattle.nb_record.specs.declared.sizes.TheConstants.{PAGE_SIZE}
+use Rattle.nb_host.specs.declared.page_name.TheConstants.{PAGE_SIZE}
 use Rattle.nb_record.specs.Writing.{zero_page}
 use Rattle.nb_record.proofs.writers.clear.Goals as goal
 

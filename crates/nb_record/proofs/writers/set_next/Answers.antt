@@ -1,6 +1,6 @@
 use Rattle.std.proofs.Common.{arith}
 use Rattle.nb_record.specs.Pages.{page_number}
-use Rattle.nb_record.proofs.Adding.{with_next, numbered_cells, next_form, next_is, next_count, next_cells}
+use Rattle.nb_record.proofs.Adding.{with_next, numbered_cells, next_form, next_is, next_count, next_cells, next_padded}
 use Rattle.nb_record.proofs.writers.set_next.Goals as goal
 
 pub returns-clause-number : goal.returns-clause-number
@@ -19,3 +19,6 @@ returns-clause-count c = rw c.put_word.ensures (next_count c.args.page c.args.in
 
 pub returns-clause-cells : goal.returns-clause-cells
 returns-clause-cells c = rw c.put_word.ensures (next_cells c.args.page c.args.into.now c.requires.size)
+
+pub returns-clause-padded : goal.returns-clause-padded
+returns-clause-padded c = λ padded. rw c.put_word.ensures (next_padded c.args.page c.args.into.now c.requires.size padded)
