@@ -1,7 +1,2 @@
-pub mod Words
-pub mod Refusal
-pub mod Once
-pub mod Done
-pub mod Answer
 pub mod Folder
 pub mod Names

@@ -3,19 +3,12 @@
 
 mod folder;
 mod folder_host;
-mod init_file;
 mod names;
-mod once;
 mod open_files;
-mod params_file;
-mod program;
-mod refusal;
-mod status;
-mod words;
 
 use crate::folder_host::FolderHost;
-use crate::program::nbody;
-use crate::status::{MEMORY, WORDS};
+use nb_cli::nbody;
+use nb_cli::status::{MEMORY, WORDS};
 use std::alloc::{AllocError, Global};
 use std::env;
 use std::io::ErrorKind;

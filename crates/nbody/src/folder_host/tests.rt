@@ -2,7 +2,7 @@
 
 use super::FolderHost;
 use crate::names::is_name;
-use crate::program::nbody;
+use nb_cli::nbody;
 use nb_host::{Host, HostError};
 use std::process::Abort;
 use std::rt::Files;

@@ -1,0 +1,15 @@
+-- What the command `once` answers, and what it leaves.
+use Rattle.std.specs.Prelude.{◌≡◌, ℕ, List, ⊤}
+use Rattle.nb_model.specs.Leapfrog.{escaped_count}
+use Rattle.nb_cli.specs.declared.once_command.Done.{Done}
+use Rattle.nb_cli.specs.Once.{Start, ticks_to, list_at}
+
+-- The answer tells the target, the ticks from the start to it, and how many bodies have left the box there.
+pub record TellsOf (target : ℕ) (start : Start) (done : Done) : Type 0 where
+  pub time : done.time ≡ target
+  pub ticks : done.ticks ≡ ticks_to target start
+  pub gone : done.gone ≡ escaped_count (list_at target start)
+
+-- A file may become anything.
+abbrev pub BecomesAny : List ℕ → List ℕ → Type 0
+BecomesAny old new = ⊤

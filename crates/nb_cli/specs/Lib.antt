@@ -1,0 +1,5 @@
+pub mod Words
+pub mod Refusal
+pub mod Once
+pub mod Done
+pub mod Answer

@@ -1,0 +1,67 @@
+//! The file of the initial snapshot.
+
+ghost use Rattle.std.specs.Prelude.{◌≡◌, ◌≤◌, IsTrue, IfOk, IfErr, OnOk, Err, Some, List, [], length};
+ghost use Rattle.nb_model.specs.declared.body.Body.{Body};
+ghost use Rattle.nb_host.specs.Faults.{Rose};
+ghost use Rattle.nb_format.specs.Snapshot.{AreStoredBodies, IsSnapshot};
+ghost use Rattle.nb_format.specs.SnapshotRefusal.{snapshot_refusal, IsBySnapshot};
+ghost use Rattle.nb_format.specs.Reader.{count_of, time_of, IsAtStart, HasRead};
+ghost use Rattle.nb_cli.specs.Once.{init_file};
+
+use nb_format::{SnapError, SnapReader};
+use nb_host::Host;
+use nb_model::Body;
+use std::alloc::{AllocFailed, Global};
+
+/// The file of the initial snapshot.
+pub const INIT_FILE: u64 = 1;
+
+/// Reads on to the end of the snapshot, and keeps nothing.
+pub fn skim<H: Host>(host: &mut H, mut reader: SnapReader) -> Result<(), SnapError>
+    requires { IsAtStart init_file reader }
+    ensures whole { OnOk result (IsTrue (H.tells host.old)
+        → HasRead reader ((H.contents host.old).file init_file) []
+        → (bodies : List Body) × (length bodies ≡ count_of reader)
+        × IsSnapshot ((H.contents host.old).file init_file) bodies (time_of reader)) }
+    ensures bad { IfErr result (λ error. IsBySnapshot error → IsTrue (H.tells host.old)
+        → HasRead reader ((H.contents host.old).file init_file) []
+        → snapshot_refusal ((H.contents host.old).file init_file) ≡ Some error) }
+    ensures same { H.contents host.new ≡ H.contents host.old }
+    ensures told { H.tells host.new ≡ H.tells host.old }
+    ensures faults { H.faults host.old ≤ H.faults host.new }
+    ensures fault { result ≡ Err SnapError.Fault → Rose (H.faults host.old) (H.faults host.new) }
+    ensures refused { H.refused_says host.new ≡ H.refused_says host.old }
+{
+    while let Some(_) = reader.next(host)? {}
+    Ok(())
+}
+
+/// Reads the bodies of the snapshot.
+pub fn read_bodies<H: Host>(
+    alloc: Global,
+    host: &mut H,
+    mut reader: SnapReader,
+) -> Result<Vec<Body>, SnapError>
+    requires { IsAtStart init_file reader }
+    ensures stored { IfOk result (λ bodies. AreStoredBodies bodies.items) }
+    ensures count { IfOk result (λ bodies. length bodies.items ≡ count_of reader) }
+    ensures whole { IfOk result (λ bodies. IsTrue (H.tells host.old)
+        → HasRead reader ((H.contents host.old).file init_file) []
+        → IsSnapshot ((H.contents host.old).file init_file) bodies.items (time_of reader)) }
+    ensures bad { IfErr result (λ error. IsBySnapshot error → IsTrue (H.tells host.old)
+        → HasRead reader ((H.contents host.old).file init_file) []
+        → snapshot_refusal ((H.contents host.old).file init_file) ≡ Some error) }
+    ensures same { H.contents host.new ≡ H.contents host.old }
+    ensures told { H.tells host.new ≡ H.tells host.old }
+    ensures faults { H.faults host.old ≤ H.faults host.new }
+    ensures fault { result ≡ Err SnapError.Fault → Rose (H.faults host.old) (H.faults host.new) }
+    ensures refused { H.refused_says host.new ≡ H.refused_says host.old }
+{
+    let mut bodies = Vec::new(alloc);
+    while let Some(body) = reader.next(host)? {
+        bodies
+            .push(body)
+            .map_err(|_: AllocFailed<Body>| SnapError::NoMemory)?;
+    }
+    Ok(bodies)
+}

@@ -1,0 +1,44 @@
+//! The file of the parameters.
+
+ghost use Rattle.std.specs.Prelude.{◌≡◌, ◌≢◌, ◌⊎◌, ◌≤◌, IsTrue, IfOk, IfErr, Ok, Err};
+ghost use Rattle.nb_format.specs.declared.params_error.ParamsError.{ParamsError};
+ghost use Rattle.nb_format.specs.ParamsText.{params_of};
+ghost use Rattle.nb_model.specs.Valid.{AreInRange};
+ghost use Rattle.nb_host.specs.Faults.{Rose};
+ghost use Rattle.nb_cli.specs.declared.refusal.Refusal.TheVariants as refusal;
+ghost use Rattle.nb_cli.specs.Once.{params_file, HasNoParams};
+ghost use Rattle.nb_cli.specs.Refusal.{NeedsNoCause, IsSayable};
+
+use crate::refusal::Refusal;
+use nb_format::{MOST_TEXT, ParamsError, read_params};
+use nb_host::Host;
+use nb_model::Params;
+use std::alloc::Global;
+
+/// The file of the parameters.
+const PARAMS_FILE: u64 = 0;
+
+/// Reads the parameters. It only reads. A text that is too long is refused by its length alone.
+pub fn parameters<H: Host>(alloc: Global, host: &mut H) -> Result<Params, Refusal>
+    ensures in_range { IfOk result AreInRange }
+    ensures spelled { IfOk result (λ params. IsTrue (H.tells host.old)
+        → params_of ((H.contents host.old).file params_file) ≡ Ok params) }
+    ensures cause { IfErr result (λ why. IsTrue (H.tells host.old) → NeedsNoCause why
+        ⊎ ((error : ParamsError) × HasNoParams (H.contents host.old).file error
+        × (why ≡ refusal.Params error))) }
+    ensures words { result ≢ Err Refusal.Words }
+    ensures sayable { IfErr result IsSayable }
+    ensures device { result ≡ Err Refusal.Device → Rose (H.faults host.old) (H.faults host.new) }
+    ensures same { H.contents host.new ≡ H.contents host.old }
+    ensures told { H.tells host.new ≡ H.tells host.old }
+    ensures faults { H.faults host.old ≤ H.faults host.new }
+    ensures refused { H.refused_says host.new ≡ H.refused_says host.old }
+{
+    let length = host.len(PARAMS_FILE)?;
+    if length > MOST_TEXT as u64 {
+        return Err(Refusal::Params(ParamsError::Long));
+    }
+    let mut text = vec![in alloc; 0; length as usize]?;
+    let found = host.read_at(PARAMS_FILE, 0, &mut text)?;
+    Ok(read_params(&text[..found])?)
+}

@@ -1,6 +1,0 @@
-use Rattle.std.proofs.Common.{◌≡◌, ◌*◌, ◌≤◌, ◌^◌, take}
-use Rattle.nb_model.specs.Octree.{total_mass}
-use Rattle.nbody.proofs.once.total_mass.Given as goal
-
-abbrev pub invariant-loop-body : goal.invariant-loop-body
-invariant-loop-body l = record { so_far : l.mass ≡ total_mass (take l.body-index l.bodies); small : l.mass ≤ l.body-index * 2 ^ 32 }
