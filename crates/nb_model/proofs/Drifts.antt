@@ -1,5 +1,5 @@
 -- Where a drift brings a position, and that the opposite drift brings it back.
-use Rattle.std.proofs.Common.{◌≡◌, ℕ, ◌<◌, Bool, true, false, cond, ◌&&◌, Option, None, Some, ℤ, pos, negsuc, ◌+ℤ◌, neg_ℤ, refl, ap, ◌∙◌, arith}
+use Rattle.std.proofs.Common.{◌≡◌, ℕ, ◌<◌, Bool, true, false, cond, ◌&&◌, Option, None, Some, ℤ, pos, negsuc, ◌+ℤ◌, neg_ℤ, refl, ap, sym, ◌∙◌, arith}
 use Rattle.std.specs.Prelude.{int_le, int_lt, nat_lt, unsigned_abs}
 use Rattle.std.proofs.lemmas.Bool.{cond_both, cond-true, and_parts, ltb-true, lt-ltb, le-leb, false≢true}
 use Rattle.std.proofs.lemmas.Int.{ints}
@@ -14,10 +14,10 @@ use Rattle.nb_model.specs.declared.way.Way.TheVariants.{Forward, Back}
 use Rattle.nb_model.specs.Limits.{box_side}
 use Rattle.nb_model.specs.Vector.{plus, negated, is_below}
 use Rattle.nb_model.specs.Leapfrog.{is_coordinate, is_position, vector_of, position_of, wrapped, drifted, drift_of, moved_to, drift_body}
-use Rattle.nb_model.specs.Laws.{opposite}
+use Rattle.nb_model.specs.Laws.{opposite, IsWrappedDrift}
 use Rattle.nb_model.specs.Valid.{IsInBox, IsBelow}
 use Rattle.nb_model.proofs.Vectors.{same_vector, same_position}
-use Rattle.nb_model.proofs.Wrapping.{remainder_of-lt, remainder_of-undone}
+use Rattle.nb_model.proofs.Wrapping.{remainder_of-lt, remainder_of-undone, remainder_of-image}
 
 -- ---- the two tests
 
@@ -119,6 +119,20 @@ is_drifted Open p u r inside is =
 is_drifted Wrap p u r inside is =
     let found = some_of (is_below box_side u) (position_of (wrapped (plus (vector_of p) u))) r is in
     rw (← found.1) (drifted-wrap p u inside found.0)
+
+pub is_wrapped_drift : (p : At) (u : V3) → IsWrappedDrift p u (drifted Wrap p u)
+is_wrapped_drift p u =
+    let there = position_of (wrapped (plus (vector_of p) u)) in
+    let P : Option At → Type 0 = λ there. IsWrappedDrift p u there in
+    cond_both (is_below box_side u) (Some there) None P
+    (λ test. record {
+      long = λ long. absurd (long (IsBelow-from_test box_side u test));
+      short = λ _. (there, refl, record { x = remainder_of-lt (pos p.x +ℤ u.x); y = remainder_of-lt (pos p.y +ℤ u.y); z = remainder_of-lt (pos p.z +ℤ u.z) }, remainder_of-image (pos p.x +ℤ u.x), remainder_of-image (pos p.y +ℤ u.y), remainder_of-image (pos p.z +ℤ u.z));
+    })
+    (λ test. record {
+      long = λ _. refl;
+      short = λ short. absurd (false≢true (sym test ∙ is_below-from box_side u short));
+    })
 
 -- ---- the drift of a body
 

@@ -7,7 +7,7 @@ use Rattle.std.proofs.lemmas.Int.{ints, int_rem_euclid_is}
 use Rattle.nb_model.specs.declared.edge.Edge.TheVariants.{Wrap}
 use Rattle.nb_model.specs.Limits.{box_side, half_box}
 use Rattle.nb_model.specs.Vector.{nearest_along}
-use Rattle.nb_model.specs.Laws.{IsNearest}
+use Rattle.nb_model.specs.Laws.{IsImageOf, IsNearest}
 
 -- a remainder, by how many sides the number differs from it
 pub record IsRemainder (z : ℤ) (r : ℕ) : Type 0 where
@@ -69,3 +69,7 @@ remainder_of-undone x (negsuc a) inside short = back_and_there x (suc a) (negsuc
 
 pub remainder_of-lt : (z : ℤ) → remainder_of z < box_side
 remainder_of-lt z = let found = is_remainder z in let of = found.1 in rw of.is of.below
+
+pub remainder_of-image : (z : ℤ) → IsImageOf z (pos (remainder_of z))
+remainder_of-image z =
+    let found = is_remainder z in let of = found.1 in (of.sides, ap pos (ap unsigned_abs of.is) ∙ of.whole)

@@ -1,5 +1,5 @@
 -- What the laws say of the definitions.
-use Rattle.std.specs.Prelude.{◌≡◌, ◌≢◌, ℕ, ◌+◌, ◌*◌, ◌<◌, ◌≤◌, Bool, true, false, nat_lt, if◌then◌else◌, ◌⊎◌, List, [], length, map, All, ℤ, pos, ◌+ℤ◌, ◌*ℤ◌, ◌≤ℤ◌, ◌<ℤ◌, neg_ℤ}
+use Rattle.std.specs.Prelude.{◌≡◌, ◌≢◌, ℕ, ◌+◌, ◌*◌, ◌<◌, ◌≤◌, Bool, true, false, nat_lt, if◌then◌else◌, ◌⊎◌, Option, None, Some, List, [], length, map, All, ℤ, pos, ◌+ℤ◌, ◌*ℤ◌, ◌≤ℤ◌, ◌<ℤ◌, neg_ℤ}
 use Rattle.nb_model.specs.declared.body.At.{At}
 use Rattle.nb_model.specs.declared.body.V3.{V3}
 use Rattle.nb_model.specs.declared.body.Body.{Body}
@@ -11,8 +11,8 @@ use Rattle.nb_model.specs.Limits.{deepest_level, box_side, half_box, kick_limit}
 use Rattle.nb_model.specs.Vector.{zero_vector, vector_sum, displacement, norm_squared, nearest_along}
 use Rattle.nb_model.specs.Octree.{cell_side, in_octant, total_mass, centre_of_mass}
 use Rattle.nb_model.specs.Gravity.{pull_along, pull, is_far, is_accepted, direct_sum, octants, force_on}
-use Rattle.nb_model.specs.Leapfrog.{half_kick, changed, accelerate, is_position, vector_of, position_of, drift_body, step, escaped_count}
-use Rattle.nb_model.specs.Valid.{IsBelow, IsValidBody, IsKickedBody, IsDriftedBody, IsValidBodies}
+use Rattle.nb_model.specs.Leapfrog.{half_kick, changed, accelerate, is_position, vector_of, position_of, drifted, drift_body, step, escaped_count}
+use Rattle.nb_model.specs.Valid.{IsInBox, IsBelow, IsValidBody, IsKickedBody, IsDriftedBody, IsValidBodies}
 
 -- The force of the bodies of a cell, by cases, the first that applies: no body gives nothing; an accepted cell gives one
 -- pull; a leaf, which has at most `leaf` bodies or is at the deepest level, gives what its bodies give one by one; and
@@ -32,7 +32,7 @@ abbrev pub HalfKickIsBelow : Type 0
 HalfKickIsBelow = (params : Params) (bodies : List Body) (b : Body) → IsValidBodies params bodies → IsBelow kick_limit (half_kick params bodies b)
 
 -- What a tick makes of a body, step by step. The drift leaves a body in the box slower than the side of the box, with
--- either edge, and so the second half kick makes it valid again.
+-- either edge, so it is valid, and stays so by the second half kick.
 pub record BodyStaysValid : Type 0 where
   pub kicked : (way : Way) (k : V3) (b : Body) → IsValidBody b → IsBelow kick_limit k → IsKickedBody (accelerate way k b)
   pub drifted : (params : Params) (way : Way) (b : Body) → IsKickedBody b → IsDriftedBody (drift_body params way b)
@@ -53,18 +53,32 @@ StepIsUndone = (params : Params) (way : Way) (bodies : List Body) → All IsVali
 
 -- ---- the edges of the box
 
--- In a box that wraps the nearest difference is one of those that differ from d by whole sides, and the only one of them
--- from minus half a box to below half a box.
+-- The two differ by whole sides of the box.
+abbrev pub IsImageOf : ℤ → ℤ → Type 0
+IsImageOf c n = (sides : ℤ) × (n ≡ c +ℤ sides *ℤ pos box_side)
+
+-- In a box that wraps the nearest difference differs from d by whole sides, and is from minus half a box to below half a
+-- box. The three fields fix it.
 pub record IsNearest (d n : ℤ) : Type 0 where
   pub low : neg_ℤ (pos half_box) ≤ℤ n
   pub high : n <ℤ pos half_box
-  pub image : (sides : ℤ) × (n ≡ d +ℤ sides *ℤ pos box_side)
+  pub image : IsImageOf d n
 
 abbrev pub WrapIsNearest : Type 0
 WrapIsNearest = (d : ℤ) → IsNearest d (nearest_along Wrap d)
 
--- In an open box all is as if there were no other one: these are the pull, the opening criterion and the drift without an
--- edge.
+-- In a box that wraps a drift leads nowhere exactly where it is as long as the side, or longer, on some axis, and else to
+-- a position of the box that differs from the sum by whole sides on each axis, of which there is one.
+pub record IsWrappedDrift (p : At) (u : V3) (there : Option At) : Type 0 where
+  pub long : (IsBelow box_side u → ⊥) → there ≡ None
+  pub short : IsBelow box_side u → (r : At) × (there ≡ Some r) × IsInBox r
+      × IsImageOf (pos p.x +ℤ u.x) (pos r.x) × IsImageOf (pos p.y +ℤ u.y) (pos r.y) × IsImageOf (pos p.z +ℤ u.z) (pos r.z)
+
+abbrev pub WrapDriftsToImage : Type 0
+WrapDriftsToImage = (p : At) (u : V3) → IsWrappedDrift p u (drifted Wrap p u)
+
+-- In an open box the three definitions that ask for the edge, and so all that stand on them, are those of an isolated box,
+-- which are these.
 abbrev pub open_pull : Params → At → ℕ → At → V3
 open_pull params p mass c =
     let d = displacement p c in

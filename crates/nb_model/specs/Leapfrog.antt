@@ -65,8 +65,8 @@ wrapped r = record {
   z = int_rem_euclid r.z (pos box_side);
 }
 
--- Where a drift by u brings a position: out of an open box nowhere, and in a box that wraps nowhere where u is as long as
--- the side, or longer, on some axis.
+-- Where a drift by u brings a position. None where it would leave an open box, or, in a box that wraps, where u is as long
+-- as the side, or longer, on some axis.
 abbrev pub drifted : Edge → At → V3 → Option At
 drifted Open p u = let r = plus (vector_of p) u in if is_position r then Some (position_of r) else None
 drifted Wrap p u = if is_below box_side u then Some (position_of (wrapped (plus (vector_of p) u))) else None
@@ -80,8 +80,8 @@ abbrev pub moved_to : Body → Option At → Body
 moved_to b (Some p) = record b { at = p }
 moved_to b None = record b { out = true }
 
--- A body in the box moves by its velocity. Where that leads nowhere in the box it becomes out: it keeps its position, and
--- its velocity.
+-- A body that isn't out moves by its velocity, or back by minus its velocity. Where that leads nowhere in the box it
+-- becomes out: it keeps its position, and its velocity.
 abbrev pub drift_body : Params → Way → Body → Body
 drift_body params way b = if b.out then b else moved_to b (drifted params.edge b.at (drift_of way b.v))
 

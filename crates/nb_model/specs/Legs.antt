@@ -1,6 +1,6 @@
 -- Runs of more than one tick. A run begins at a time and goes by legs, each of which is named by its target, the time at
 -- which it ends.
-use Rattle.std.specs.Prelude.{◌≡◌, ◌≢◌, ⊤, ◌⊎◌, ℕ, ◌+◌, ◌-◌, ◌%◌, ◌≤◌, Bool, true, false, not, List, [], ◌∷◌, ◌++◌, length, take, replicate, count_by}
+use Rattle.std.specs.Prelude.{◌≡◌, ◌≢◌, ⊤, ◌⊎◌, ℕ, ◌+◌, ◌-◌, ◌%◌, ◌^◌, ◌<◌, ◌≤◌, Bool, true, false, not, List, [], ◌∷◌, ◌++◌, length, take, replicate, count_by, All}
 use Rattle.nb_model.specs.declared.body.Body.{Body}
 use Rattle.nb_model.specs.declared.params.Params.{Params}
 use Rattle.nb_model.specs.declared.way.Way.{Way}
@@ -23,9 +23,10 @@ abbrev pub EachLeads : ℕ → List ℕ → Type 0
 EachLeads begin [] = ⊤
 EachLeads begin (target ∷ legs) = (target ≢ begin) × EachLeads target legs
 
--- The legs are those of a run.
+-- The legs are those of a run: each leads away from the time before it, to a time that the code can hold.
 pub record AreLegs (begin : ℕ) (legs : List ℕ) : Type 0 where
   pub each : EachLeads begin legs
+  pub targets : All (λ target. target < 2 ^ 64) legs
   pub count : length (directions begin legs) ≤ most_ticks
 
 abbrev pub is_forward : Way → Bool

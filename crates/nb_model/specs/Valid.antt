@@ -46,8 +46,8 @@ pub record IsKickedBody (b : Body) : Type 0 where
   pub at : IsInBox b.at
   pub speed : b.out ≡ false → IsBelow (2 * speed_limit) b.v
 
--- What a drift leaves of such a body: one that isn't out has a speed below the side of the box. A half kick makes it
--- valid again.
+-- What a drift leaves of such a body: one that isn't out has a speed below the side of the box. It is valid, and a half
+-- kick leaves it so.
 pub record IsDriftedBody (b : Body) : Type 0 where
   pub some_mass : 1 ≤ b.mass
   pub mass : b.mass < mass_limit

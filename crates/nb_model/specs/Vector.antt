@@ -23,8 +23,9 @@ vector_sum vectors = fold plus zero_vector vectors
 abbrev pub displacement : At → At → V3
 displacement p c = record { x = pos c.x -ℤ pos p.x; y = pos c.y -ℤ pos p.y; z = pos c.z -ℤ pos p.z }
 
--- The difference of two coordinates, or in a box that wraps the one to the nearest image: from minus half a box, which is
--- the difference of coordinates half a box apart, both ways, to below half a box. The remainder is never negative.
+-- The difference of two coordinates, or in a box that wraps the one to the nearest image (the minimum image convention),
+-- which is at least minus half a box and below half a box. Coordinates just half a box apart differ by minus half a box,
+-- whichever comes first, so two bodies there are pulled the same way. The remainder is never negative.
 abbrev pub nearest_along : Edge → ℤ → ℤ
 nearest_along Open d = d
 nearest_along Wrap d = int_rem_euclid (d +ℤ pos half_box) (pos box_side) -ℤ pos half_box

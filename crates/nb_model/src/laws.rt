@@ -3,7 +3,7 @@
 
 ghost use Rattle.std.specs.Prelude.{◌≡◌, ℕ, ◌^◌};
 ghost use Rattle.nb_model.specs.Root.{IsIntegerRoot, integer_root};
-ghost use Rattle.nb_model.specs.Laws.{ForceIsByCases, HalfKickIsBelow, BodyStaysValid, StepIsUndone, StepIsValid, WrapIsNearest, OpenBoxHasNoImages};
+ghost use Rattle.nb_model.specs.Laws.{ForceIsByCases, HalfKickIsBelow, BodyStaysValid, StepIsUndone, StepIsValid, WrapIsNearest, WrapDriftsToImage, OpenBoxHasNoImages};
 
 use crate::limits::{
     BOX_BITS, BOX_SIDE, DEEPEST_LEVEL, GM_LIMIT, HALF_BOX, KICK_LIMIT, MOST_BODIES, MOST_TICKS,
@@ -40,9 +40,11 @@ pub fn law_back()
     ensures { StepIsUndone }
 {}
 
-/// In a box that wraps each difference is the one to the nearest image.
+/// In a box that wraps each difference is the one to the nearest image, and a drift leads to the image of the
+/// sum that lies in the box, or nowhere where it is as long as the side.
 pub fn law_wrapped_box()
-    ensures { WrapIsNearest }
+    ensures nearest { WrapIsNearest }
+    ensures drift { WrapDriftsToImage }
 {}
 
 /// In an open box there are no images: pulls, the opening criterion and drifts are those without an edge.
