@@ -2,21 +2,9 @@
 # Times the root and the pull of crates/nb_fixed: prints tenths of nanoseconds a call, for softened squares of 20, 40, 60
 # and 80 bits. It builds a small proved program over this checkout's crates in a temporary folder, and leaves nothing.
 set -eu
-top=$(cd "$(dirname "$0")/.." && pwd)
-work=$(mktemp -d)
-trap 'rm -rf "$work"' EXIT
-mkdir -p "$work/crates/bench/src" "$work/crates/bench/specs"
-for name in nb_model nb_fixed; do
-    mkdir "$work/crates/$name"
-    for part in src specs proofs; do
-        if [ -d "$top/crates/$name/$part" ]; then
-            cp -R "$top/crates/$name/$part" "$work/crates/$name/"
-        fi
-    done
-done
-printf 'nb_model:\nnb_fixed: nb_model\nbench: nb_model nb_fixed\n' >"$work/crates.txt"
-: >"$work/crates/bench/specs/Lib.antt"
-cat >"$work/crates/bench/src/main.rt" <<'PROGRAM'
+. "$(dirname "$0")/small_program.sh"
+stand_on nb_model nb_fixed
+cat >"$bench/src/main.rt" <<'PROGRAM'
 //! Times the root and the pull over numbers of a xorshift generator (Marsaglia 2003).
 #![tactic(auto)]
 
@@ -24,7 +12,7 @@ ghost use Rattle.std.specs.Prelude.{◌≡◌, ◌*◌, ◌+◌, ◌^◌, ◌<�
 ghost use Rattle.nb_model.specs.Valid.{AreInRange, IsInBox};
 
 use nb_fixed::{pull, root};
-use nb_model::{At, Params};
+use nb_model::{At, Edge, Params};
 use std::io;
 use std::time::Instant;
 
@@ -110,7 +98,15 @@ fn time_pull(rt: &HostRuntime, bits: u32) -> io::Result<()>
         cases.push(Case { x, y, z, weight })?;
     }
     let from = At { x: 549755813888, y: 549755813888, z: 549755813888 };
-    let params = Params { grav: 1, theta_num: 1, theta_den: 2, soft: 1, leaf: 8, every: 100 };
+    let params = Params {
+        grav: 1,
+        theta_num: 1,
+        theta_den: 2,
+        soft: 1,
+        leaf: 8,
+        every: 100,
+        edge: Edge::Open,
+    };
     let mut sum = 0i64;
     let mut none = 0u64;
     let mut least = u128::MAX;
@@ -147,9 +143,4 @@ fn main(rt: HostRuntime) -> io::Result<()> {
     Ok(())
 }
 PROGRAM
-cd "$work/crates/bench"
-rt run >"$work/out" 2>"$work/errors" || {
-    cat "$work/out" "$work/errors"
-    exit 1
-}
-grep -E '^(root|pull) ' "$work/out"
+run_bench 'root|pull'
