@@ -1,6 +1,7 @@
 #!/bin/sh
 # Times the root, the pull and the opening criterion of crates/nb_fixed: prints tenths of nanoseconds a call, for softened
-# squares of 20, 40, 60 and 80 bits, in an open box and in one that wraps. It builds a small proved program over this checkout's crates in a temporary folder, and leaves nothing.
+# squares of 20, 40, 60 and 80 bits, in an open box and in one that wraps. It builds a small proved program over this
+# checkout's crates in a temporary folder, and leaves nothing.
 set -eu
 . "$(dirname "$0")/small_program.sh"
 stand_on nb_model nb_fixed
