@@ -8,26 +8,11 @@
 # It builds a small proved program over this checkout's crates in a temporary folder, and leaves nothing. The program takes
 # 1.6 GB of memory.
 set -eu
-top=$(cd "$(dirname "$0")/.." && pwd)
-work=$(mktemp -d)
-trap 'rm -rf "$work"' EXIT
-mkdir -p "$work/crates/bench/src" "$work/crates/bench/specs" "$work/crates/bench/proofs/Storage/fetch_group"
-for name in nb_model nb_host nb_cache; do
-    mkdir "$work/crates/$name"
-    for part in src specs proofs; do
-        if [ -d "$top/crates/$name/$part" ]; then
-            cp -R "$top/crates/$name/$part" "$work/crates/$name/"
-        fi
-    done
-done
-cat >"$work/crates.txt" <<'CRATES'
-nb_model:
-nb_host: nb_model
-nb_cache: nb_model nb_host lru
-bench: nb_host nb_cache
-CRATES
-echo 'pub mod Rising' >"$work/crates/bench/specs/Lib.antt"
-cat >"$work/crates/bench/specs/Rising.antt" <<'DEFINITIONS'
+. "$(dirname "$0")/small_program.sh"
+stand_on nb_model nb_host nb_cache
+mkdir -p "$bench/proofs/Storage/fetch_group"
+echo 'pub mod Rising' >"$bench/specs/Lib.antt"
+cat >"$bench/specs/Rising.antt" <<'DEFINITIONS'
 -- Pages of file 3 in rising order.
 use Rattle.std.specs.Prelude.{◌≡◌, ℕ, ⊤, ◌+◌, ◌^◌, ◌<◌, ◌≤◌, List, [], ◌∷◌}
 use Rattle.std.specs.Coded.{Unit-prop, le_prop}
@@ -43,11 +28,11 @@ pub Rises-prop : (from : ℕ) (names : List PageName) → IsProp (Rises from nam
 Rises-prop from [] = Unit-prop
 Rises-prop from (n ∷ names) = hlevel (ℕ_set, le_prop, Rises-prop (n.page + 1) names)
 DEFINITIONS
-cat >"$work/crates/bench/proofs/Storage/fetch_group/Answers.antt" <<'ANSWERS'
+cat >"$bench/proofs/Storage/fetch_group/Answers.antt" <<'ANSWERS'
 use Rattle.std.proofs.Common.{◌≡◌, ℕ, ◌+◌, ◌<◌, inr, List, [], ◌∷◌, arith, sym, ◌∙◌}
 use Rattle.std.specs.List.{AllByRecursion}
 use Rattle.nb_host.specs.declared.page_name.PageName.{PageName}
-use Rattle.nb_cache.specs.Names.{IsBefore, IsRising}
+use Rattle.nb_host.specs.Page.{IsBefore, IsRising}
 use Rattle.nb_cache.specs.InStep.{IsCacheable}
 use Rattle.bench.specs.Rising.{Rises}
 use Rattle.bench.proofs.Storage.fetch_group.Goals as goal
@@ -78,7 +63,7 @@ fetch-requires-clause-rising c = rw c.deref.ensures.value (all_rising _ _ c.args
 pub fetch-requires-clause-names : goal.fetch-requires-clause-names
 fetch-requires-clause-names c = rw c.deref.ensures.value (all_places _ _ c.args.group.now.rises)
 ANSWERS
-cat >"$work/crates/bench/src/main.rt" <<'PROGRAM'
+cat >"$bench/src/main.rt" <<'PROGRAM'
 //! Times look-ups of pages through a cache, in the order of a xorshift generator (Marsaglia 2003).
 #![tactic(auto)]
 
@@ -440,9 +425,4 @@ fn main(rt: HostRuntime) -> Result<(), Fail> {
     measure(&rt, 65536)
 }
 PROGRAM
-cd "$work/crates/bench"
-rt run >"$work/out" 2>"$work/errors" || {
-    cat "$work/out" "$work/errors"
-    exit 1
-}
-grep -E '^(resident|group|sweep|mix) ' "$work/out"
+run_bench 'resident|group|sweep|mix'

@@ -1,30 +1,19 @@
 #!/bin/sh
-# Times the root and the pull of crates/nb_fixed: prints tenths of nanoseconds a call, for softened squares of 20, 40, 60
-# and 80 bits. It builds a small proved program over this checkout's crates in a temporary folder, and leaves nothing.
+# Times the root, the pull and the opening criterion of crates/nb_fixed: prints tenths of nanoseconds a call, for softened
+# squares of 20, 40, 60 and 80 bits, in an open box and in one that wraps. It builds a small proved program over this
+# checkout's crates in a temporary folder, and leaves nothing.
 set -eu
-top=$(cd "$(dirname "$0")/.." && pwd)
-work=$(mktemp -d)
-trap 'rm -rf "$work"' EXIT
-mkdir -p "$work/crates/bench/src" "$work/crates/bench/specs"
-for name in nb_model nb_fixed; do
-    mkdir "$work/crates/$name"
-    for part in src specs proofs; do
-        if [ -d "$top/crates/$name/$part" ]; then
-            cp -R "$top/crates/$name/$part" "$work/crates/$name/"
-        fi
-    done
-done
-printf 'nb_model:\nnb_fixed: nb_model\nbench: nb_model nb_fixed\n' >"$work/crates.txt"
-: >"$work/crates/bench/specs/Lib.antt"
-cat >"$work/crates/bench/src/main.rt" <<'PROGRAM'
-//! Times the root and the pull over numbers of a xorshift generator (Marsaglia 2003).
+. "$(dirname "$0")/small_program.sh"
+stand_on nb_model nb_fixed
+cat >"$bench/src/main.rt" <<'PROGRAM'
+//! Times the root, the pull and the opening criterion over numbers of a xorshift generator (Marsaglia 2003).
 #![tactic(auto)]
 
 ghost use Rattle.std.specs.Prelude.{◌≡◌, ◌*◌, ◌+◌, ◌^◌, ◌<◌, ◌≤◌};
 ghost use Rattle.nb_model.specs.Valid.{AreInRange, IsInBox};
 
-use nb_fixed::{pull, root};
-use nb_model::{At, Params};
+use nb_fixed::{opens, pull, root};
+use nb_model::{At, Edge, Params, V3};
 use std::io;
 use std::time::Instant;
 
@@ -90,7 +79,7 @@ fn coordinate(offset: u64) -> u64
     549755813888 + (offset & 549755813887)
 }
 
-fn time_pull(rt: &HostRuntime, bits: u32) -> io::Result<()>
+fn cases(rt: &HostRuntime, bits: u32) -> io::Result<Vec<Case>>
     requires low { 8 ≤ bits }
     requires high { bits ≤ 80 }
 {
@@ -109,8 +98,42 @@ fn time_pull(rt: &HostRuntime, bits: u32) -> io::Result<()>
         let weight = if state % 2 == 0 { state >> 4 } else { (state >> 4) % (1 << small) };
         cases.push(Case { x, y, z, weight })?;
     }
-    let from = At { x: 549755813888, y: 549755813888, z: 549755813888 };
-    let params = Params { grav: 1, theta_num: 1, theta_den: 2, soft: 1, leaf: 8, every: 100 };
+    Ok(cases)
+}
+
+fn middle() -> At
+    ensures { IsInBox result }
+{
+    At { x: 549755813888, y: 549755813888, z: 549755813888 }
+}
+
+fn params(edge: Edge) -> Params
+    ensures range { AreInRange result }
+    ensures unit { result.grav ≡ 1 }
+{
+    Params { grav: 1, theta_num: 1, theta_den: 2, soft: 1, leaf: 8, every: 100, edge }
+}
+
+fn centre(case: &Case, round: u64) -> At
+    ensures { IsInBox result }
+{
+    At { x: coordinate(case.x ^ round % 4), y: coordinate(case.y), z: coordinate(case.z) }
+}
+
+fn pull_of(edge: Edge, case: &Case, round: u64) -> V3 {
+    pull(&params(edge), &middle(), case.weight % (1 << 60), &centre(case, round))
+}
+
+fn is_opened(edge: Edge, case: &Case, round: u64) -> bool {
+    let level = 1 + (case.weight % 16) as u32;
+    opens(&params(edge), &middle(), level, &centre(case, round), false)
+}
+
+fn time_pull(rt: &HostRuntime, edge: Edge, bits: u32) -> io::Result<()>
+    requires low { 8 ≤ bits }
+    requires high { bits ≤ 80 }
+{
+    let cases = cases(rt, bits)?;
     let mut sum = 0i64;
     let mut none = 0u64;
     let mut least = u128::MAX;
@@ -118,9 +141,7 @@ fn time_pull(rt: &HostRuntime, bits: u32) -> io::Result<()>
         let start = Instant::now(rt)?;
         for round in 0..ROUNDS {
             for case in &cases {
-                let x = coordinate(case.x ^ round % 4);
-                let centre = At { x, y: coordinate(case.y), z: coordinate(case.z) };
-                let kick = pull(&params, &from, case.weight % (1 << 60), &centre);
+                let kick = pull_of(edge, case, round);
                 sum = sum.wrapping_add(kick.x).wrapping_add(kick.y).wrapping_add(kick.z);
                 if kick.x == 0 {
                     none = none.wrapping_add(1);
@@ -131,7 +152,30 @@ fn time_pull(rt: &HostRuntime, bits: u32) -> io::Result<()>
     }
     let each = tenths(least);
     let share = none / (CALLS * TRIES / 100);
-    println!(rt; "pull {bits} bits: {each} ({share} of 100 without a kick, sum {sum})")?;
+    println!(rt; "pull {edge:?} {bits} bits: {each} ({share} of 100 without a kick, sum {sum})")?;
+    Ok(())
+}
+
+fn time_opens(rt: &HostRuntime, edge: Edge, bits: u32) -> io::Result<()>
+    requires low { 8 ≤ bits }
+    requires high { bits ≤ 80 }
+{
+    let cases = cases(rt, bits)?;
+    let mut opened = 0u64;
+    let mut least = u128::MAX;
+    for _ in 0..TRIES {
+        let start = Instant::now(rt)?;
+        for round in 0..ROUNDS {
+            for case in &cases {
+                if is_opened(edge, case, round) {
+                    opened = opened.wrapping_add(1);
+                }
+            }
+        }
+        least = least.min(start.elapsed(rt)?.as_nanos());
+    }
+    let each = tenths(least);
+    println!(rt; "opens {edge:?} {bits} bits: {each} ({opened} opened)")?;
     Ok(())
 }
 
@@ -140,16 +184,15 @@ fn main(rt: HostRuntime) -> io::Result<()> {
     time_root(&rt, 40)?;
     time_root(&rt, 60)?;
     time_root(&rt, 80)?;
-    time_pull(&rt, 20)?;
-    time_pull(&rt, 40)?;
-    time_pull(&rt, 60)?;
-    time_pull(&rt, 80)?;
+    for edge in [Edge::Open, Edge::Wrap] {
+        for bits in [20, 40, 60, 80] {
+            time_pull(&rt, edge, bits)?;
+        }
+        for bits in [20, 40, 60, 80] {
+            time_opens(&rt, edge, bits)?;
+        }
+    }
     Ok(())
 }
 PROGRAM
-cd "$work/crates/bench"
-rt run >"$work/out" 2>"$work/errors" || {
-    cat "$work/out" "$work/errors"
-    exit 1
-}
-grep -E '^(root|pull) ' "$work/out"
+run_bench 'root|pull|opens'
