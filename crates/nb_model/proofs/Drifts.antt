@@ -1,8 +1,9 @@
 -- Where a drift brings a position, and that the opposite drift brings it back.
-use Rattle.std.proofs.Common.{◌≡◌, ℕ, ◌<◌, Bool, true, false, cond, ◌&&◌, Option, None, Some, ℤ, pos, negsuc, ◌+ℤ◌, neg_ℤ, refl, ap, sym, ◌∙◌, arith}
-use Rattle.std.specs.Prelude.{int_le, int_lt, nat_lt, unsigned_abs}
+use Rattle.std.proofs.Common.{◌≡◌, ℕ, ◌<◌, Bool, true, false, cond, ◌&&◌, Option, None, Some, ℤ, pos, negsuc, ◌+ℤ◌, neg_ℤ, refl, ap, sym, ◌∙◌, arith, List}
+use Rattle.std.specs.Prelude.{All, int_le, int_lt, nat_lt, unsigned_abs}
 use Rattle.std.proofs.lemmas.Bool.{cond_both, cond-true, and_parts, ltb-true, lt-ltb, le-leb, false≢true}
 use Rattle.std.proofs.lemmas.Int.{ints}
+use Rattle.std.proofs.lemmas.List.Elements.{All-map, All-weaker}
 use Rattle.nb_model.specs.declared.body.At.{At}
 use Rattle.nb_model.specs.declared.body.V3.{V3}
 use Rattle.nb_model.specs.declared.body.Body.{Body}
@@ -13,7 +14,7 @@ use Rattle.nb_model.specs.declared.way.Way.{Way}
 use Rattle.nb_model.specs.declared.way.Way.TheVariants.{Forward, Back}
 use Rattle.nb_model.specs.Limits.{box_side}
 use Rattle.nb_model.specs.Vector.{plus, negated, is_below}
-use Rattle.nb_model.specs.Leapfrog.{is_coordinate, is_position, vector_of, position_of, wrapped, drifted, drift_of, moved_to, drift_body}
+use Rattle.nb_model.specs.Leapfrog.{half_kick, accelerate, kick, drift, is_coordinate, is_position, vector_of, position_of, wrapped, drifted, drift_of, moved_to, drift_body}
 use Rattle.nb_model.specs.Laws.{opposite, IsWrappedDrift}
 use Rattle.nb_model.specs.Valid.{IsInBox, IsBelow}
 use Rattle.nb_model.proofs.Vectors.{same_vector, same_position}
@@ -157,3 +158,17 @@ IsBelow-of_drift Back limit v small = record {
   y = rw (← size-neg v.y) small.y;
   z = rw (← size-neg v.z) small.z;
 }
+
+-- a drift leaves each body in the box
+pub drift_body-in_box : (params : Params) (way : Way) (b : Body) → IsInBox b.at → IsInBox (drift_body params way b).at
+drift_body-in_box params way b inside =
+    drift_body_cases params way b (λ c. IsInBox c.at) (λ _. inside) (λ _ r there. let moved = is_drifted params.edge b.at (drift_of way b.v) r inside there in moved.at) (λ _ _. inside)
+
+pub drift-in_box : (params : Params) (way : Way) (bodies : List Body) → All (λ b. IsInBox b.at) bodies → All (λ b. IsInBox b.at) (drift params way bodies)
+drift-in_box params way bodies inside =
+    All-map (λ b. IsInBox b.at) (drift_body params way) bodies (All-weaker (λ b. IsInBox b.at) (λ b. IsInBox (drift_body params way b).at) (drift_body-in_box params way) bodies inside)
+
+-- and so does a kick
+pub kick-in_box : (params : Params) (way : Way) (bodies : List Body) → All (λ b. IsInBox b.at) bodies → All (λ b. IsInBox b.at) (kick params way bodies)
+kick-in_box params way bodies inside =
+    All-map (λ b. IsInBox b.at) (λ b. accelerate way (half_kick params bodies b) b) bodies inside

@@ -4,7 +4,7 @@ use Rattle.std.specs.Prelude.{All}
 use Rattle.std.proofs.lemmas.Bool.{cond-true, cond-false}
 use Rattle.std.proofs.lemmas.Int.{ints}
 use Rattle.std.proofs.lemmas.List.{map-id}
-use Rattle.std.proofs.lemmas.List.Elements.{All-head, All-tail, All-map, All-weaker}
+use Rattle.std.proofs.lemmas.List.Elements.{All-head, All-tail, All-weaker}
 use Rattle.std.proofs.lemmas.List.Sums.{sum_by-cons}
 use Rattle.std.proofs.lemmas.Simd.{map-map}
 use Rattle.nb_model.specs.declared.body.At.{At}
@@ -18,7 +18,7 @@ use Rattle.nb_model.specs.Valid.{IsInBox, IsValidBody}
 use Rattle.nb_model.specs.Laws.{opposite}
 use Rattle.nb_model.proofs.Sums.{map_agree}
 use Rattle.nb_model.proofs.Vectors.{same_vector}
-use Rattle.nb_model.proofs.Drifts.{is_drifted, drift_body_cases, drift_of-opposite}
+use Rattle.nb_model.proofs.Drifts.{kick-in_box, is_drifted, drift_body_cases, drift_of-opposite}
 use Rattle.nb_model.proofs.Steps.{escaped_count-kick}
 use Rattle.nb_model.proofs.Accelerated.{half_kick-accelerated}
 
@@ -109,13 +109,9 @@ drift-undone params way (b ∷ bs) inside none =
 
 -- ---- a tick
 
-IsInBox-kick : (params : Params) (way : Way) (bodies : List Body) → All IsValidBody bodies → All (λ b. IsInBox b.at) (kick params way bodies)
-IsInBox-kick params way bodies valid =
-    All-map (λ b. IsInBox b.at) (λ b. accelerate way (half_kick params bodies b) b) bodies (All-weaker IsValidBody (λ b. IsInBox b.at) (λ _ ok. ok.at) bodies valid)
-
 pub step_undone : (params : Params) (way : Way) (bodies : List Body) → All IsValidBody bodies → escaped_count (step params way bodies) ≡ escaped_count bodies → step params (opposite way) (step params way bodies) ≡ bodies
 step_undone params way bodies valid none =
     let kicked = kick params way bodies in
     let drifted = drift params way kicked in
     let stayed : escaped_count drifted ≡ escaped_count kicked = sym (escaped_count-kick params way drifted) ∙ none ∙ sym (escaped_count-kick params way bodies) in
-    ap (λ l. kick params (opposite way) (drift params (opposite way) l)) (kick-undone params way drifted) ∙ ap (kick params (opposite way)) (drift-undone params way kicked (IsInBox-kick params way bodies valid) stayed) ∙ kick-undone params way bodies
+    ap (λ l. kick params (opposite way) (drift params (opposite way) l)) (kick-undone params way drifted) ∙ ap (kick params (opposite way)) (drift-undone params way kicked (kick-in_box params way bodies (All-weaker IsValidBody (λ b. IsInBox b.at) (λ _ ok. ok.at) bodies valid)) stayed) ∙ kick-undone params way bodies
