@@ -15,7 +15,7 @@ use Rattle.nb_host.specs.declared.outcome.Outcome.TheVariants.{Kept, Lost, Fille
 use Rattle.nb_host.specs.Crashes.{ImagesFollow, Stays}
 use Rattle.nb_host.specs.Disk.{DiskFile, Disk, Event, Wrote, Cut, Synced, Said, Crashed, is_unsynced, left_file, filled_byte, crash_model_by, IsFileImage, IsCrashImage, contents_on, synced_file, written_file, cut_file, with_change, with_said, after, disk_after, in_progress, IsImageSince}
 use Rattle.nb_host.specs.DiskLaws.{IsSoundFile, length-take_less, disk_is_sound, reads_is_image, contents_is_image}
-use Rattle.nb_host.proofs.Steps.{torn_by_nothing, torn_by_first, overwritten_is_torn}
+use Rattle.nb_host.proofs.Callers.{torn_by_nothing, torn_by_first, overwritten_is_torn}
 use Rattle.nb_host.proofs.Calls.{says_nothing}
 
 -- Bytes put together from two files: those of the base where the test holds, and else those of the other.
@@ -353,7 +353,6 @@ follows_event events old new event step recorded now within =
     subst (λ (all : List Event). IsImageSince all moment image) (sym recorded) is
     in
     record {
-      honest = refl;
       follows = λ _. record {
         later = rw recorded (omega arith);
         now = λ image is.
@@ -377,7 +376,6 @@ pub follows_nothing : {H : Type 0} (events : H → List Event) (old new : H) (st
     → events new ≡ events old → ((image : Image) → step image image)
     → ImagesFollow (crash_model_by events) old new step
 follows_nothing events old new step same itself = record {
-  honest = refl;
   follows = λ _. record {
     later = rw same (omega arith);
     now = λ image is. (

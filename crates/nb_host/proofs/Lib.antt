@@ -1,6 +1,5 @@
-pub mod Calls
-pub mod DiskSteps
-pub mod Grown
-pub mod Places
-pub mod Steps
-pub mod Stretches
+pub mod Callers
+mod Calls
+mod DiskSteps
+mod Grown
+mod Places

@@ -4,8 +4,9 @@ use Rattle.nb_host.specs.Image.{Image}
 
 -- A host's meanings of a crash. The last three are known of an honest host alone.
 pub record CrashModel (H : Type 0) : Type 1 where
-  -- whether the host returns what was written, and a sync that succeeds makes what the files hold outlast a crash
-  pub is_honest : H → Bool
+  -- whether a host of this type returns what was written, and a sync that succeeds makes what the files hold outlast a
+  -- crash
+  pub is_honest : Bool
   -- may_leave h i: a crash now may leave the image i
   pub may_leave : H → Image → Type 0
   -- moment h: how far h has come, which never falls
@@ -32,12 +33,10 @@ pub record Follows {H : Type 0} (model : CrashModel H) (old new : H) (step : Ima
   pub keeps : (moment : ℕ) (image : Image) → moment ≤ model.moment old → model.left_since old moment image
       → model.left_since new moment image
 
--- A stretch of calls leads from the old host to the new one. It neither begins nor ends that the host is honest, and each
--- image of an honest one, at every moment of the stretch and within its calls, follows by the step from an image at its
--- start.
+-- A stretch of calls leads from the old host to the new one: each image of an honest one, at every moment of the stretch
+-- and within its calls, follows by the step from an image at its start.
 pub record ImagesFollow {H : Type 0} (model : CrashModel H) (old new : H) (step : Image → Image → Type 0) : Type 0 where
-  pub honest : model.is_honest new ≡ model.is_honest old
-  pub follows : IsTrue (model.is_honest old) → Follows model old new step
+  pub follows : IsTrue model.is_honest → Follows model old new step
 
 -- A stretch of calls leads from the old host to the new one, whatever it does.
 abbrev pub IsStretch : {H : Type 0} → CrashModel H → H → H → Type 0
@@ -59,41 +58,31 @@ ChangesOnly model files old new = ImagesFollow model old new (AgreesOutside file
 
 -- Every image that a crash may have left since the start of the stretch has this property.
 abbrev pub EverySince : {H : Type 0} → CrashModel H → (Image → Type 0) → H → H → Type 0
-EverySince model P old new = (image : Image) → IsTrue (model.is_honest old)
+EverySince model P old new = (image : Image) → IsTrue model.is_honest
     → model.left_since new (model.moment old) image → P image
-
--- What reads is durable: a crash leaves just that.
-abbrev pub IsDurable : {H : Type 0} → CrashModel H → (H → Image) → H → Type 0
-IsDurable model contents host = (image : Image) → IsTrue (model.is_honest host) → model.may_leave host image
-    → image ≡ contents host
-
--- What one file holds is durable.
-abbrev pub IsDurableFile : {H : Type 0} → CrashModel H → (H → Image) → ℕ → H → Type 0
-IsDurableFile model contents number host = (image : Image) → IsTrue (model.is_honest host)
-    → model.may_leave host image → image.file number ≡ (contents host).file number
 
 -- The laws of every honest host.
 
 -- What reads is one of the images.
 abbrev pub LeavesContents : {H : Type 0} → CrashModel H → (H → Image) → Type 0
-LeavesContents {H} model contents = (host : H) → IsTrue (model.is_honest host) → model.may_leave host (contents host)
+LeavesContents {H} model contents = (host : H) → IsTrue model.is_honest → model.may_leave host (contents host)
 
 -- What was said stays.
 abbrev pub LeavesSaid : {H : Type 0} → CrashModel H → (H → Image) → Type 0
-LeavesSaid {H} model contents = (host : H) (image : Image) → IsTrue (model.is_honest host) → model.may_leave host image
+LeavesSaid {H} model contents = (host : H) (image : Image) → IsTrue model.is_honest → model.may_leave host image
     → image.said ≡ (contents host).said
 
 -- An image of now is one since each moment up to now.
 abbrev pub CountsNow : {H : Type 0} → CrashModel H → Type 0
-CountsNow {H} model = (host : H) (moment : ℕ) (image : Image) → IsTrue (model.is_honest host)
+CountsNow {H} model = (host : H) (moment : ℕ) (image : Image) → IsTrue model.is_honest
     → moment ≤ model.moment host → model.may_leave host image → model.left_since host moment image
 
 -- An image since a later moment is one since an earlier one.
 abbrev pub CountsEarlier : {H : Type 0} → CrashModel H → Type 0
-CountsEarlier {H} model = (host : H) (earlier later : ℕ) (image : Image) → IsTrue (model.is_honest host)
+CountsEarlier {H} model = (host : H) (earlier later : ℕ) (image : Image) → IsTrue model.is_honest
     → earlier ≤ later → model.left_since host later image → model.left_since host earlier image
 
 -- An image since now is one of now.
 abbrev pub CountsOnlyNow : {H : Type 0} → CrashModel H → Type 0
-CountsOnlyNow {H} model = (host : H) (image : Image) → IsTrue (model.is_honest host)
+CountsOnlyNow {H} model = (host : H) (image : Image) → IsTrue model.is_honest
     → model.left_since host (model.moment host) image → model.may_leave host image

@@ -143,7 +143,7 @@ IsImageSince (event ∷ earlier) moment image =
 -- the model of crashes of a host that holds a record of its calls, the newest first
 abbrev pub crash_model_by : {H : Type 0} → (H → List Event) → CrashModel H
 crash_model_by events = record {
-  is_honest = λ _. true;
+  is_honest = true;
   may_leave = λ host. IsCrashImage (disk_after (events host));
   moment = λ host. length (events host);
   left_since = λ host. IsImageSince (events host);

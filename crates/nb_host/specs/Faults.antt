@@ -8,10 +8,11 @@ use Rattle.nb_host.specs.declared.host.Channel.{Channel}
 abbrev pub Rose : ℕ → ℕ → Type 0
 Rose before now = min (before + 1) (2 ^ 64 - 1) ≤ now
 
--- The count of faults never falls, and a call answers Fault only where it rose.
+-- The count of faults never falls, a call answers Fault only where it rose, and Ok only where it didn't.
 pub record CountsFault {T : Type 0} (before now : ℕ) (result : Result T HostError) : Type 0 where
   pub no_less : before ≤ now
   pub rose : result ≡ Err Fault → Rose before now
+  pub spared : IsOk result → now ≡ before
 
 -- The count of refused says on one channel rises where a say on it is refused, and no other count changes.
 pub record CountsRefusedSay {T : Type 0} (channel : Channel) (before now : Channel → ℕ) (result : Result T HostError) : Type 0 where

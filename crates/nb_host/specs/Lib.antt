@@ -6,6 +6,7 @@ pub mod DiskLaws
 pub mod Faults
 pub mod Files
 pub mod Image
+pub mod Meaning
 pub mod Memory
 pub mod Page
 pub mod Plan

@@ -1,5 +1,6 @@
 -- What a host in memory shows, and what each of its calls does to its counts.
-use Rattle.std.specs.Prelude.{◌≡◌, ◌≢◌, ℕ, List, Result, Err, IsErr}
+use Rattle.std.specs.Prelude.{◌≡◌, ◌≢◌, ℕ, true, false, List, Result, Err, IsErr}
+use Rattle.std.proofs.Common.{rules}
 use Rattle.nb_host.specs.declared.host.HostError.{HostError}
 use Rattle.nb_host.specs.declared.host.HostError.TheVariants.{Fault}
 use Rattle.nb_host.specs.declared.host.Channel.{Channel}
@@ -11,7 +12,9 @@ use Rattle.nb_host.specs.Channels.{refused_on}
 use Rattle.nb_host.specs.Counts.{next_count}
 use Rattle.nb_host.specs.Crashes.{CrashModel}
 use Rattle.nb_host.specs.Disk.{Disk, Event, contents_on, crash_model_by, disk_after}
+use Rattle.nb_host.specs.DiskLaws.{contents_is_image, image_counts, counts_only_now, counts_earlier}
 use Rattle.nb_host.specs.Image.{Image}
+use Rattle.nb_host.specs.Meaning.{HostModel}
 use Rattle.nb_host.specs.Plan.{IsDueBy, burnt}
 use Rattle.nb_host.specs.Record.{recorded}
 
@@ -53,6 +56,28 @@ faults_of host = host.plan.faults
 -- how many says on each channel were refused
 abbrev pub refused_of : MemoryHost → Channel → ℕ
 refused_of host = refused_on host.refusals
+
+-- a host that tells isn't one that tells nothing
+pub tells_nothing : {A : Type 0} → true ≡ false → A
+tells_nothing never = absurd (search rules)
+
+-- what the host means: it tells everything, and is honest
+abbrev pub meaning_of : HostModel MemoryHost
+meaning_of = record {
+  tells = true;
+  contents = contents_of;
+  faults = faults_of;
+  refused_says = refused_of;
+  crashes = crashes_of;
+  tells_if_honest = λ honest. honest;
+  untold = λ never _ _. tells_nothing never;
+  leaves_contents = λ host _. contents_is_image (events_of host);
+  leaves_said = λ _ _ _ is. is.said;
+  counts_now = λ host moment image _ _ is. image_counts (events_of host) moment image is;
+  counts_only_now = λ host image _ since. counts_only_now (events_of host) image since;
+  counts_earlier = λ host early late image _ less since.
+      counts_earlier (events_of host) early late image less since;
+}
 
 -- the numbers of the host calls that are set to fail, counted from 1 from when they were set on
 abbrev pub failing_of : MemoryHost → List ℕ

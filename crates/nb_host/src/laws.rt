@@ -2,8 +2,9 @@
 //! calls. Each is a function that does nothing: its contract is the law.
 
 ghost use Rattle.std.specs.Prelude.{◌≡◌, ◌⊎◌, ◌↔◌, ℕ, ◌+◌, ◌^◌, List, ◌++◌, Contains, IsTrue};
-ghost use Rattle.nb_host.specs.Crashes.{IsStretch, ChangesOnly, EverySince, AgreesOutside, IsDurable, IsDurableFile};
+ghost use Rattle.nb_host.specs.Crashes.{IsStretch, ChangesOnly, EverySince, AgreesOutside};
 ghost use Rattle.nb_host.specs.Image.{Image};
+ghost use Rattle.nb_host.specs.Meaning.{IsDurable, IsDurableFile};
 
 use crate::host::{Host, LAST_FILE, PLACE_LIMIT};
 use crate::page_name::PAGE_SIZE;
@@ -11,48 +12,51 @@ use crate::page_name::PAGE_SIZE;
 /// A stretch of calls that changes only some files changes only more of them.
 pub fn law_changes_more<H: Host>()
     ensures { (fewer more : List ℕ) (old new : H) → ((file : ℕ) → Contains fewer file → Contains more file)
-        → ChangesOnly H.crashes fewer old new → ChangesOnly H.crashes more old new }
+        → ChangesOnly H.meaning.crashes fewer old new → ChangesOnly H.meaning.crashes more old new }
 {}
 
 /// Two stretches, one right after the other, change together only the files of both.
 pub fn law_changes_both<H: Host>()
-    ensures { (first second : List ℕ) (old middle new : H) → ChangesOnly H.crashes first old middle
-        → ChangesOnly H.crashes second middle new → ChangesOnly H.crashes (first ++ second) old new }
+    ensures { (first second : List ℕ) (old middle new : H) → ChangesOnly H.meaning.crashes first old middle
+        → ChangesOnly H.meaning.crashes second middle new
+        → ChangesOnly H.meaning.crashes (first ++ second) old new }
 {}
 
 /// After a stretch that changes only some files, every image since its start agrees in every other file, and
 /// in what was said, with an image at its start.
 pub fn law_every_image<H: Host>()
-    ensures { (files : List ℕ) (old new : H) → ChangesOnly H.crashes files old new
-        → EverySince H.crashes (λ image. (start : Image) × H.crashes.may_leave old start
+    ensures { (files : List ℕ) (old new : H) → ChangesOnly H.meaning.crashes files old new
+        → EverySince H.meaning.crashes (λ image. (start : Image) × H.meaning.crashes.may_leave old start
         × AgreesOutside files start image) old new }
 {}
 
 /// Two stretches, one right after the other: the images since the start of both are those of the first and
 /// those of the second.
 pub fn law_images_of_both<H: Host>()
-    ensures { (old middle new : H) (image : Image) → IsStretch H.crashes old middle
-        → IsStretch H.crashes middle new → IsTrue (H.crashes.is_honest old)
-        → (H.crashes.left_since new (H.crashes.moment old) image
-        ↔ (H.crashes.left_since middle (H.crashes.moment old) image
-        ⊎ H.crashes.left_since new (H.crashes.moment middle) image)) }
+    ensures { (old middle new : H) (image : Image) → IsStretch H.meaning.crashes old middle
+        → IsStretch H.meaning.crashes middle new → IsTrue H.meaning.crashes.is_honest
+        → (H.meaning.crashes.left_since new (H.meaning.crashes.moment old) image
+        ↔ (H.meaning.crashes.left_since middle (H.meaning.crashes.moment old) image
+        ⊎ H.meaning.crashes.left_since new (H.meaning.crashes.moment middle) image)) }
 {}
 
 /// What is durable in one file reads as before, and stays durable, through calls that change only others.
 pub fn law_durable_file<H: Host>()
-    ensures each { (file : ℕ) (host : H) → IsDurable H.crashes H.contents host
-        → IsDurableFile H.crashes H.contents file host }
+    ensures each { (file : ℕ) (host : H) → IsDurable H.meaning host
+        → IsDurableFile H.meaning file host }
     ensures stays { (files : List ℕ) (file : ℕ) (old new : H) → (Contains files file → ⊥)
-        → IsDurableFile H.crashes H.contents file old → ChangesOnly H.crashes files old new
-        → IsDurableFile H.crashes H.contents file new }
+        → IsDurableFile H.meaning file old → ChangesOnly H.meaning.crashes files old new
+        → IsDurableFile H.meaning file new }
     ensures holds { (files : List ℕ) (file : ℕ) (old new : H) → (Contains files file → ⊥)
-        → IsDurableFile H.crashes H.contents file old → ChangesOnly H.crashes files old new
-        → IsTrue (H.crashes.is_honest old) → (H.contents new).file file ≡ (H.contents old).file file }
+        → IsDurableFile H.meaning file old → ChangesOnly H.meaning.crashes files old new
+        → IsTrue H.meaning.crashes.is_honest
+        → (H.meaning.contents new).file file ≡ (H.meaning.contents old).file file }
 {}
 
 /// What an honest host's files hold is one of the images that a crash may leave.
 pub fn law_contents_are_left<H: Host>()
-    ensures { (host : H) → IsTrue (H.crashes.is_honest host) → H.crashes.may_leave host (H.contents host) }
+    ensures { (host : H) → IsTrue H.meaning.crashes.is_honest
+        → H.meaning.crashes.may_leave host (H.meaning.contents host) }
 {}
 
 /// The greatest number of a file, what the end of a write or a read in a file is below, in bytes, and the length

@@ -2,11 +2,12 @@
 
 ghost use Rattle.std.specs.Prelude.{◌≡◌, ◌≢◌, ◌⊎◌, ℕ, ◌+◌, ◌/◌, ◌<◌, ◌≤◌, [], ◌∷◌, ◌++◌, length, take, drop, true, OnOk, OnErr, IfOk, Err};
 ghost use Rattle.nb_host.specs.Counts.{next_count, first_half};
-ghost use Rattle.nb_host.specs.Crashes.{ImagesFollow, Stays, IsDurable, IsDurableFile};
+ghost use Rattle.nb_host.specs.Crashes.{ImagesFollow, Stays};
 ghost use Rattle.nb_host.specs.Disk.{Wrote, Cut, Synced, Said, Placed, Crashed, IsCrashImage, left_file};
-ghost use Rattle.nb_host.specs.Faults.{CountsFault, CountsRefusedSay};
+ghost use Rattle.nb_host.specs.Faults.{CountsFault};
 ghost use Rattle.nb_host.specs.Plan.{part_by};
-ghost use Rattle.nb_host.specs.Image.{IsOverwritten, IsTorn, IsCut, IsPartlyCut, FileBecomes, Says, SaysPart, readable};
+ghost use Rattle.nb_host.specs.Image.{IsOverwritten, IsTorn, IsCut, IsPartlyCut, FileBecomes, Says, readable};
+ghost use Rattle.nb_host.specs.Meaning.{IsDurable, IsDurableFile, Leads, Ran, Spoke};
 ghost use Rattle.nb_host.specs.declared.fuse.Fuse.TheVariants.{Unset, Burning};
 ghost use Rattle.nb_host.specs.declared.host.HostError.TheVariants.{Fault};
 ghost use Rattle.nb_host.specs.declared.host.Channel.{Channel};
@@ -31,14 +32,14 @@ pub struct MemoryHost {
 }
 
 impl MemoryHost {
-    ghost use Rattle.nb_host.specs.Memory.{events_of, disk_of, contents_of, crashes_of, calls_of, reads_of, faults_of, refused_of, failing_of, fuse_of, calls_since_set, IsBlown, CountsCall, KeepsCounts, KeepsFailing};
+    ghost use Rattle.nb_host.specs.Memory.{events_of, disk_of, contents_of, crashes_of, meaning_of, calls_of, reads_of, faults_of, refused_of, failing_of, fuse_of, calls_since_set, IsBlown, CountsCall, KeepsCounts, KeepsFailing};
 
     /// No files, nothing said, no calls, and none set to fail. Takes no memory.
     pub fn new(alloc: Global) -> MemoryHost
         ensures files { (file : ℕ) → (contents_of result).file file ≡ [] }
         ensures said { (channel : Channel) → (contents_of result).said channel ≡ [] }
         ensures events { events_of result ≡ [] }
-        ensures durable { IsDurable crashes_of contents_of result }
+        ensures durable { IsDurable meaning_of result }
         ensures calls { calls_of result ≡ 0 }
         ensures reads { reads_of result ≡ 0 }
         ensures faults { faults_of result ≡ 0 }
@@ -59,7 +60,7 @@ impl MemoryHost {
     pub fn with_file(&mut self, file: u64, bytes: &[u8]) -> Result<(), NoMemory>
         ensures ok { OnOk result
             (FileBecomes file (λ _ now. now ≡ bytes.now) (contents_of self.old) (contents_of self.new)) }
-        ensures durable { OnOk result (IsDurableFile crashes_of contents_of file self.new) }
+        ensures durable { OnOk result (IsDurableFile meaning_of file self.new) }
         ensures placed { OnOk result (events_of self.new ≡ Placed file bytes.now ∷ events_of self.old) }
         ensures err { OnErr result (contents_of self.new ≡ contents_of self.old) }
         ensures nothing { OnErr result (events_of self.new ≡ events_of self.old) }
@@ -101,7 +102,7 @@ impl MemoryHost {
     /// any more, and the fuse is gone. It is no host call, and isn't counted.
     pub fn crash(&mut self, outcome: Outcome) -> Result<(), NoMemory>
         ensures image { OnOk result (IsCrashImage (disk_of self.old) (contents_of self.new)) }
-        ensures durable { OnOk result (IsDurable crashes_of contents_of self.new) }
+        ensures durable { OnOk result (IsDurable meaning_of self.new) }
         ensures left { OnOk result ((file : ℕ) → (contents_of self.new).file file
             ≡ left_file outcome ((disk_of self.old).file file)) }
         ensures said { OnOk result ((contents_of self.new).said ≡ (contents_of self.old).said) }
@@ -206,42 +207,17 @@ fn read(file: &[u8], at: usize, into: &mut [u8]) -> usize
 // Each method has the trait's clauses, which here need no host that tells, and says exactly what it does
 // besides.
 impl Host for MemoryHost {
-    ghost use Rattle.nb_host.specs.DiskLaws.{contents_is_image, image_counts, counts_only_now, counts_earlier};
-    ghost use Rattle.nb_host.specs.Memory.{events_of, contents_of, crashes_of, reads_of, faults_of, refused_of, IsBlown, IsDue, CountsCall};
+    ghost use Rattle.nb_host.specs.Memory.{events_of, contents_of, meaning_of, reads_of, refused_of, IsBlown, IsDue, CountsCall};
 
-    ghost tells = { λ _. true };
-
-    ghost contents = { contents_of };
-
-    ghost faults = { faults_of };
-
-    ghost refused_says = { refused_of };
-
-    ghost crashes = { crashes_of };
-
-    ghost tells_if_honest = { λ _ honest. honest };
-
-    ghost leaves_contents = { λ host _. contents_is_image (events_of host) };
-
-    ghost leaves_said = { λ _ _ _ is. is.said };
-
-    ghost counts_now = { λ host moment image _ _ is. image_counts (events_of host) moment image is };
-
-    ghost counts_only_now = { λ host image _ since. counts_only_now (events_of host) image since };
-
-    ghost counts_earlier = { λ host early late image _ less since.
-        counts_earlier (events_of host) early late image less since };
+    ghost meaning = { meaning_of };
 
     fn len(&mut self, file: u64) -> Result<u64, HostError>
         ensures length { IfOk result (λ n. n ≡ length ((contents_of self.old).file file)) }
-        ensures same { contents_of self.new ≡ contents_of self.old }
-        ensures images { ImagesFollow crashes_of self.old self.new Stays }
+        ensures ran { Ran meaning_of HostError.Fault Stays self.old self.new result }
         ensures nothing { events_of self.new ≡ events_of self.old }
-        ensures fault { CountsFault (faults_of self.old) (faults_of self.new) result }
         ensures due { IsDue self.old → result ≡ Err Fault }
         ensures call { CountsCall self.old self.new result }
         ensures reads { reads_of self.new ≡ reads_of self.old }
-        ensures refused { refused_of self.new ≡ refused_of self.old }
         ensures needs_no_memory { result ≢ Err HostError.NoMemory }
     {
         let fate = self.plan.begin();
@@ -258,14 +234,11 @@ impl Host for MemoryHost {
         ensures rest { IfOk result (λ n. into.new
             ≡ readable at (length into.old) ((contents_of self.old).file file) ++ drop n into.old) }
         ensures untouched { OnErr result (into.new ≡ into.old) }
-        ensures same { contents_of self.new ≡ contents_of self.old }
-        ensures images { ImagesFollow crashes_of self.old self.new Stays }
+        ensures ran { Ran meaning_of HostError.Fault Stays self.old self.new result }
         ensures nothing { events_of self.new ≡ events_of self.old }
-        ensures fault { CountsFault (faults_of self.old) (faults_of self.new) result }
         ensures due { IsDue self.old → result ≡ Err Fault }
         ensures call { CountsCall self.old self.new result }
         ensures reads { reads_of self.new ≡ next_count (reads_of self.old) }
-        ensures refused { refused_of self.new ≡ refused_of self.old }
         ensures needs_no_memory { result ≢ Err HostError.NoMemory }
     {
         self.reads = self.reads.saturating_add(1);
@@ -278,12 +251,9 @@ impl Host for MemoryHost {
         requires { at + length bytes.now < PLACE_LIMIT }
         ensures written { OnOk result
             (FileBecomes file (IsOverwritten at bytes.now) (contents_of self.old) (contents_of self.new)) }
-        ensures torn { FileBecomes file (IsTorn at (length bytes.now))
-            (contents_of self.old) (contents_of self.new) }
-        ensures no_memory { result ≡ Err HostError.NoMemory → contents_of self.new ≡ contents_of self.old }
-        ensures images { ImagesFollow crashes_of self.old self.new
-            (FileBecomes file (IsTorn at (length bytes.now))) }
-        ensures idle { result ≡ Err HostError.NoMemory → ImagesFollow crashes_of self.old self.new Stays }
+        ensures ran { Ran meaning_of HostError.Fault (FileBecomes file (IsTorn at (length bytes.now)))
+            self.old self.new result }
+        ensures idle { result ≡ Err HostError.NoMemory → Leads meaning_of Stays self.old self.new }
         ensures ok { OnOk result
             (events_of self.new ≡ Wrote file at bytes.now (length bytes.now) ∷ events_of self.old) }
         ensures half { result ≡ Err Fault → (IsBlown self.old → ⊥)
@@ -293,11 +263,9 @@ impl Host for MemoryHost {
             (contents_of self.old) (contents_of self.new) }
         ensures nothing { IsBlown self.old → events_of self.new ≡ events_of self.old }
         ensures unrecorded { result ≡ Err HostError.NoMemory → events_of self.new ≡ events_of self.old }
-        ensures fault { CountsFault (faults_of self.old) (faults_of self.new) result }
         ensures blown { IsBlown self.old → result ≡ Err Fault }
         ensures call { CountsCall self.old self.new result }
         ensures reads { reads_of self.new ≡ reads_of self.old }
-        ensures refused { refused_of self.new ≡ refused_of self.old }
     {
         let fate = self.plan.begin();
         if fate == Fate::Nothing {
@@ -311,16 +279,14 @@ impl Host for MemoryHost {
     fn cut(&mut self, file: u64, len: u64) -> Result<(), HostError>
         ensures cut { OnOk result
             (FileBecomes file (IsCut len) (contents_of self.old) (contents_of self.new)) }
-        ensures partly { FileBecomes file (IsPartlyCut len) (contents_of self.old) (contents_of self.new) }
-        ensures images { ImagesFollow crashes_of self.old self.new (FileBecomes file (IsPartlyCut len)) }
-        ensures idle { result ≡ Err HostError.NoMemory → ImagesFollow crashes_of self.old self.new Stays }
+        ensures ran { Ran meaning_of HostError.Fault (FileBecomes file (IsPartlyCut len))
+            self.old self.new result }
+        ensures idle { result ≡ Err HostError.NoMemory → Leads meaning_of Stays self.old self.new }
         ensures ok { OnOk result (events_of self.new ≡ Cut file len ∷ events_of self.old) }
         ensures nothing { OnErr result (events_of self.new ≡ events_of self.old) }
-        ensures fault { CountsFault (faults_of self.old) (faults_of self.new) result }
         ensures due { IsDue self.old → result ≡ Err Fault }
         ensures call { CountsCall self.old self.new result }
         ensures reads { reads_of self.new ≡ reads_of self.old }
-        ensures refused { refused_of self.new ≡ refused_of self.old }
     {
         let fate = self.plan.begin();
         if fate != Fate::Passes {
@@ -331,16 +297,13 @@ impl Host for MemoryHost {
     }
 
     fn sync(&mut self) -> Result<(), HostError>
-        ensures same { contents_of self.new ≡ contents_of self.old }
-        ensures images { ImagesFollow crashes_of self.old self.new Stays }
-        ensures durable { OnOk result (IsDurable crashes_of contents_of self.new) }
+        ensures ran { Ran meaning_of HostError.Fault Stays self.old self.new result }
+        ensures durable { OnOk result (IsDurable meaning_of self.new) }
         ensures ok { OnOk result (events_of self.new ≡ Synced ∷ events_of self.old) }
         ensures nothing { OnErr result (events_of self.new ≡ events_of self.old) }
-        ensures fault { CountsFault (faults_of self.old) (faults_of self.new) result }
         ensures due { IsDue self.old → result ≡ Err Fault }
         ensures call { CountsCall self.old self.new result }
         ensures reads { reads_of self.new ≡ reads_of self.old }
-        ensures refused { refused_of self.new ≡ refused_of self.old }
     {
         let fate = self.plan.begin();
         if fate != Fate::Passes {
@@ -352,10 +315,7 @@ impl Host for MemoryHost {
 
     fn say(&mut self, channel: Channel, bytes: &[u8]) -> Result<(), HostError>
         ensures said { OnOk result (Says channel bytes.now (contents_of self.old) (contents_of self.new)) }
-        ensures part { SaysPart channel bytes.now (contents_of self.old) (contents_of self.new) }
-        ensures no_memory { result ≡ Err HostError.NoMemory → contents_of self.new ≡ contents_of self.old }
-        ensures images { ImagesFollow crashes_of self.old self.new (SaysPart channel bytes.now) }
-        ensures idle { result ≡ Err HostError.NoMemory → ImagesFollow crashes_of self.old self.new Stays }
+        ensures spoke { Spoke meaning_of channel bytes.now self.old self.new result }
         ensures ok { OnOk result
             (events_of self.new ≡ Said channel bytes.now (length bytes.now) ∷ events_of self.old) }
         ensures half { result ≡ Err Fault → (IsBlown self.old → ⊥)
@@ -364,11 +324,9 @@ impl Host for MemoryHost {
             → Says channel (first_half bytes.now) (contents_of self.old) (contents_of self.new) }
         ensures nothing { IsBlown self.old → events_of self.new ≡ events_of self.old }
         ensures unrecorded { result ≡ Err HostError.NoMemory → events_of self.new ≡ events_of self.old }
-        ensures fault { CountsFault (faults_of self.old) (faults_of self.new) result }
         ensures blown { IsBlown self.old → result ≡ Err Fault }
         ensures call { CountsCall self.old self.new result }
         ensures reads { reads_of self.new ≡ reads_of self.old }
-        ensures refused { CountsRefusedSay channel (refused_of self.old) (refused_of self.new) result }
         ensures refused_once { OnErr result
             (refused_of self.new channel ≡ next_count (refused_of self.old channel)) }
     {

@@ -1,8 +1,8 @@
-use Rattle.nb_host.proofs.Stretches.{since_either, either_since}
+use Rattle.nb_host.proofs.Callers.{since_either, either_since}
 use Rattle.nb_host.proofs.laws.law_images_of_both.Goals as goal
 
 pub returns : goal.returns
 returns g c = λ old middle new image first second honest. (
-  since_either g.H.Host.crashes old middle new _ _ first second image honest,
-  either_since g.H.Host.crashes old middle new _ _ g.met.H.Host.counts_earlier first second image honest,
+  since_either first second image honest,
+  either_since g.H.Host.meaning.counts_earlier first second image honest,
 )

@@ -1,11 +1,21 @@
 -- A sync that succeeds leaves what reads as the only image.
+use Rattle.std.proofs.Common.{rules}
 use Rattle.nb_host.specs.Memory.{events_of}
 use Rattle.nb_host.proofs.Calls.{on_ok_always}
 use Rattle.nb_host.proofs.DiskSteps.{sync_durable, follows_sync}
 use Rattle.nb_host.proofs.memory.MemoryHostHost.sync.Goals as goal
 
-pub returns-clause-images : goal.returns-clause-images
-returns-clause-images c = follows_sync events_of c.args.self.now _ c.in_ok-sync.ensures.ok
+pub returns-clause-ran : goal.returns-clause-ran
+returns-clause-ran c = record {
+  leads = record {
+    contents = search rules;
+    images = follows_sync events_of c.args.self.now _ c.in_ok-sync.ensures.ok;
+  };
+  count = search rules;
+  rose = search rules;
+  spared = search rules;
+  refused = search rules;
+}
 
 pub returns-clause-durable : goal.returns-clause-durable
 returns-clause-durable c =
