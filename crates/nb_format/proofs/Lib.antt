@@ -11,7 +11,10 @@ pub mod SnapshotRefusals
 pub mod Writing
 pub mod Numerals
 pub mod ParamsLines
+pub mod Settings
 pub mod ParamsValues
 pub mod CanonicalParams
 pub mod Decimals
 pub mod ParamsOnce
+pub mod ParamsFaults
+pub mod SaidLines

@@ -1,6 +1,6 @@
 -- What holds of the values that were read, and of a refusal.
 use Rattle.std.proofs.Common.{◌≡◌, ℕ, zero, suc, ◌+◌, ◌<◌, Bool, true, false, nat_lt, if◌then◌else◌, Option, Some, None, Result, Ok, Err, List, [], ◌∷◌, length, refl, arith, lit<, length-set}
-use Rattle.std.specs.Prelude.{IfSome, IfOk, IfErr, slice_set, is_none}
+use Rattle.std.specs.Prelude.{IfSome, IfOk, IfErr, slice_set, is_none, is_some}
 use Rattle.std.specs.List.{position, position_or_len}
 use Rattle.std.proofs.lemmas.Bool.Decides.{nat_tests}
 use Rattle.nb_model.specs.declared.params.Params.{Params}
@@ -8,19 +8,20 @@ use Rattle.nb_model.specs.Valid.{AreInRange}
 use Rattle.nb_format.specs.declared.params_error.ParamsError.{ParamsError}
 use Rattle.nb_format.specs.declared.params_error.ParamsError.TheVariants as refused
 use Rattle.nb_format.specs.declared.params_line.Line.{Line}
-use Rattle.nb_format.specs.declared.params_line.Line.TheVariants.{Skipped, Malformed, Setting}
-use Rattle.nb_format.specs.ParamsText.{Values, no_values, is_read, is_in_range, line_of, with_line, with_lines, result_and_then, read_value, assembled_params, unless_missing, params_from, params_of, most_text, lines_of, NamesParameter}
+use Rattle.nb_format.specs.declared.params_line.Line.TheVariants.{Skipped, Malformed, Setting, Border}
+use Rattle.nb_format.specs.declared.params_reader.Values.{Values}
+use Rattle.nb_format.specs.ParamsText.{no_values, is_read, is_in_range, line_of, with_line, with_lines, result_and_then, read_value, assembled_params, unless_missing, params_from, params_of, most_text, lines_of, NamesParameter}
 use Rattle.nb_format.proofs.ParamsLines.{IsPlace-position, position_or_len-none}
 
 -- the values, from the parameter of this number on, are in their ranges
-abbrev pub Within : ℕ → Values → Type 0
+abbrev pub Within : ℕ → List (Option ℕ) → Type 0
 Within which [] = Unit {0}
 Within which (value ∷ values) = IfSome value (λ v. is_in_range which v ≡ true) × Within (which + 1) values
 
 -- there are six values, each in its range
 pub record AreWithin (values : Values) : Type 0 where
-  six : length values ≡ 6
-  within : Within 0 values
+  six : length values.numbers ≡ 6
+  within : Within 0 values.numbers
 
 -- a setting is refused, or kept
 setting-names : (read fits : Bool) (kept : Values) (number : ℕ)
@@ -34,6 +35,15 @@ setting-keeps : (read fits : Bool) (kept : Values) (number : ℕ) → (fits ≡ 
 setting-keeps true fits kept number keeps = tt
 setting-keeps false true kept number keeps = keeps refl
 setting-keeps false false kept number keeps = tt
+
+-- an edge is refused, or kept
+border-names : (read : Bool) (kept : Values) (number : ℕ) → IfErr (if read then Err (refused.Twice number) else Ok kept) NamesParameter
+border-names true kept number = tt
+border-names false kept number = tt
+
+border-keeps : (read : Bool) (kept : Values) (number : ℕ) → AreWithin kept → IfOk (if read then Err (refused.Twice number) else Ok kept) AreWithin
+border-keeps true kept number keeps = tt
+border-keeps false kept number keeps = keeps
 
 and_then-names : (next : Values → Result Values ParamsError) (r : Result Values ParamsError) → IfErr r NamesParameter
     → ((values : Values) → IfErr (next values) NamesParameter) → IfErr (result_and_then next r) NamesParameter
@@ -50,7 +60,8 @@ with_line-names : (number : ℕ) (values : Values) (line : Line) → IfErr (with
 with_line-names number values Skipped = tt
 with_line-names number values Malformed = tt
 with_line-names number values (Setting which value) =
-    setting-names (is_read values which) (is_in_range which value) (slice_set values which (Some value)) number
+    setting-names (is_read values.numbers which) (is_in_range which value) (record values { numbers = slice_set values.numbers which (Some value) }) number
+with_line-names number values (Border edge) = border-names (is_some values.edge) (record values { edge = Some edge }) number
 
 with_lines-names : (number : ℕ) (values : Values) (lines : List (List ℕ)) → IfErr (with_lines number values lines) NamesParameter
 with_lines-names number values [] = tt
@@ -59,7 +70,7 @@ with_lines-names number values (line ∷ lines) =
     (with_line-names number values (line_of line))
     (λ more. with_lines-names (number + 1) more lines)
 
-read-in_range : (k : ℕ) (values : Values) (i : ℕ) → i < length values → position_or_len is_none values ≡ length values → Within k values → is_in_range (k + i) (read_value values i) ≡ true
+read-in_range : (k : ℕ) (values : List (Option ℕ)) (i : ℕ) → i < length values → position_or_len is_none values ≡ length values → Within k values → is_in_range (k + i) (read_value values i) ≡ true
 read-in_range k [] i below all within = absurd (omega arith)
 read-in_range k (None ∷ values) i below all within = absurd (omega arith)
 read-in_range k (Some v ∷ values) zero below all within = let e : k + 0 ≡ k = omega arith in rw e within.0
@@ -67,7 +78,7 @@ read-in_range k (Some v ∷ values) (suc i) below all within =
     let e : k + suc i ≡ (k + 1) + i = omega arith in
     rw e (read-in_range (k + 1) values i (omega arith) (omega (arith, all)) within.1)
 
-set-within : (k : ℕ) (values : Values) (i v : ℕ) → is_in_range (k + i) v ≡ true → Within k values → Within k (slice_set values i (Some v))
+set-within : (k : ℕ) (values : List (Option ℕ)) (i v : ℕ) → is_in_range (k + i) v ≡ true → Within k values → Within k (slice_set values i (Some v))
 set-within k [] i v fits within = tt
 set-within k (had ∷ values) zero v fits within = let e : k + 0 ≡ k = omega arith in (rw e at fits, within.1)
 set-within k (had ∷ values) (suc i) v fits within =
@@ -78,11 +89,13 @@ with_line-within : (number : ℕ) (values : Values) (line : Line) → AreWithin 
 with_line-within number values Skipped are = are
 with_line-within number values Malformed are = tt
 with_line-within number values (Setting which value) are =
-    setting-keeps (is_read values which) (is_in_range which value) (slice_set values which (Some value)) number
+    setting-keeps (is_read values.numbers which) (is_in_range which value) (record values { numbers = slice_set values.numbers which (Some value) }) number
     (λ fits. record {
       six = simp length-set are.six;
-      within = set-within 0 values which value (let e : 0 + which ≡ which = omega arith in rw e fits) are.within;
+      within = set-within 0 values.numbers which value (let e : 0 + which ≡ which = omega arith in rw e fits) are.within;
     })
+with_line-within number values (Border edge) are =
+    border-keeps (is_some values.edge) (record values { edge = Some edge }) number (record { six = are.six; within = are.within })
 
 with_lines-within : (number : ℕ) (values : Values) (lines : List (List ℕ)) → AreWithin values → IfOk (with_lines number values lines) AreWithin
 with_lines-within number values [] are = are
@@ -95,10 +108,10 @@ no_values-within : AreWithin no_values
 no_values-within = record { six = refl; within = (tt, (tt, (tt, (tt, (tt, (tt, tt)))))) }
 
 -- values that are in their ranges, and none of which is missing, make parameters in range
-AreInRange-within : (values : Values) → AreWithin values → position_or_len is_none values ≡ length values → AreInRange (assembled_params values)
+AreInRange-within : (values : Values) → AreWithin values → position_or_len is_none values.numbers ≡ length values.numbers → AreInRange (assembled_params values)
 AreInRange-within values are all =
-    let in_range : (i : ℕ) → i < 6 → is_in_range i (read_value values i) ≡ true =
-    λ i below. (let e : 0 + i ≡ i = omega arith in rw e at (read-in_range 0 values i (omega (arith, are.six)) all are.within)) in
+    let in_range : (i : ℕ) → i < 6 → is_in_range i (read_value values.numbers i) ≡ true =
+    λ i below. (let e : 0 + i ≡ i = omega arith in rw e at (read-in_range 0 values.numbers i (omega (arith, are.six)) all are.within)) in
     let grav = in_range 0 (lit< tt) in
     let theta_num = in_range 1 (lit< tt) in
     let theta_den = in_range 2 (lit< tt) in
@@ -124,8 +137,8 @@ unless_missing-in_range (Some which) params in_range = tt
 
 params_from-in_range : (values : Values) → AreWithin values → IfOk (params_from values) AreInRange
 params_from-in_range values are =
-    unless_missing-in_range (position is_none values) (assembled_params values)
-    (λ none. AreInRange-within values are (position_or_len-none is_none values none))
+    unless_missing-in_range (position is_none values.numbers) (assembled_params values)
+    (λ none. AreInRange-within values are (position_or_len-none is_none values.numbers none))
 
 unless_missing-names : (missing : Option ℕ) (params : Params) → ((which : ℕ) → Some which ≡ missing → which < 6) → IfErr (unless_missing missing params) NamesParameter
 unless_missing-names None params below = tt
@@ -133,8 +146,8 @@ unless_missing-names (Some which) params below = below which refl
 
 params_from-names : (values : Values) → AreWithin values → IfErr (params_from values) NamesParameter
 params_from-names values are =
-    unless_missing-names (position is_none values) (assembled_params values)
-    (λ which some. omega (arith, are.six, (IsPlace-position is_none values which some).within))
+    unless_missing-names (position is_none values.numbers) (assembled_params values)
+    (λ which some. omega (arith, are.six, (IsPlace-position is_none values.numbers which some).within))
 
 if-in_range : (long : Bool) (r : Result Params ParamsError) → IfOk r AreInRange → IfOk (if long then Err refused.Long else r) AreInRange
 if-in_range true r in_range = tt

@@ -8,7 +8,7 @@ use Rattle.std.proofs.lemmas.List.{append-nil, take_all, length-drop, length_pus
 use Rattle.std.proofs.lemmas.List.Concat.{flat_map-append}
 use Rattle.std.proofs.Math.Logic.{⊎_elim}
 use Rattle.nb_host.specs.Image.{Image, overwritten, IsOverwritten, IsTorn, FileBecomes}
-use Rattle.nb_host.proofs.Steps.{overwritten-at_end, overwritten-within}
+use Rattle.nb_host.proofs.Callers.{overwritten-at_end, overwritten-within}
 use Rattle.nb_model.specs.declared.body.Body.{Body}
 use Rattle.nb_model.specs.Limits.{most_bodies}
 use Rattle.nb_format.specs.declared.snap_writer.Filling.{Filling}

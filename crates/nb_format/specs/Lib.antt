@@ -7,4 +7,6 @@ pub mod Writer
 pub mod Digits
 pub mod ParamsText
 pub mod ParamsReading
+pub mod ParamsFaults
 pub mod Lines
+pub mod LineEnds

@@ -1,7 +1,8 @@
 //! Whether a snapshot file is finished.
 
 ghost use Rattle.std.specs.Prelude.{◌≡◌, ◌≤◌, ◌↔◌, IsTrue, IfOk};
-ghost use Rattle.nb_host.specs.Faults.{CountsFault};
+ghost use Rattle.nb_host.specs.Crashes.{Stays};
+ghost use Rattle.nb_host.specs.Meaning.{Ran};
 ghost use Rattle.nb_model.specs.Limits.{most_bodies};
 ghost use Rattle.nb_format.specs.Snapshot.{IsFinishedSnapshot};
 
@@ -13,12 +14,9 @@ use nb_host::{Host, HostError, LAST_FILE};
 pub fn snap_finished<H: Host>(host: &mut H, file: u64, count: u64) -> Result<bool, HostError>
     requires number { file ≤ LAST_FILE }
     requires few { count ≤ most_bodies }
-    ensures finished { IfOk result (λ answer. IsTrue (H.tells host.old)
-        → (IsTrue answer ↔ IsFinishedSnapshot count ((H.contents host.old).file file))) }
-    ensures same { H.contents host.new ≡ H.contents host.old }
-    ensures told { H.tells host.new ≡ H.tells host.old }
-    ensures fault { CountsFault (H.faults host.old) (H.faults host.new) result }
-    ensures refused { H.refused_says host.new ≡ H.refused_says host.old }
+    ensures finished { IfOk result (λ answer. IsTrue H.meaning.tells
+        → (IsTrue answer ↔ IsFinishedSnapshot count ((H.meaning.contents host.old).file file))) }
+    ensures ran { Ran H.meaning HostError.Fault Stays host.old host.new result }
 {
     if host.len(file)? != snapshot_length(count) {
         return Ok(false);

@@ -13,6 +13,7 @@ mod finished;
 mod header;
 mod laws;
 mod length;
+mod line_laws;
 mod parameter;
 mod params_error;
 mod params_laws;
@@ -29,9 +30,12 @@ mod text;
 pub use digits::number_of;
 pub use finished::snap_finished;
 pub use laws::{law_one_snapshot, law_snapshot_is_finished, law_snapshot_refusal};
+pub use line_laws::{law_one_tick, law_refusal_lines, law_said_lines};
 pub use parameter::param_line;
 pub use params_error::ParamsError;
-pub use params_laws::{law_canonical_params, law_each_parameter_once, law_params_in_range};
+pub use params_laws::{
+    law_canonical_params, law_each_parameter_once, law_first_faulty_line, law_params_in_range,
+};
 pub use params_reader::{MOST_TEXT, read_params};
 pub use refusals_said::{
     already_text, damaged_text, device_text, heavy_text, leg_text, limit_text, many_text,

@@ -3,14 +3,17 @@
 #![tactic(auto, using(crate::proofs::Decimals::digit_counts))]
 
 ghost use Rattle.std.specs.Prelude.{◌≡◌, ◌<◌, ◌≤◌, length, slice_index};
-ghost use Rattle.nb_format.specs.ParamsText.{parameters, name_at, values_of, canonical_line};
+ghost use Rattle.nb_format.specs.ParamsText.{parameters, edge_number, edge_text as text_of_edge, name_at, values_of, canonical_line};
 
 use crate::Text;
-use nb_model::Params;
+use nb_model::{Edge, Params};
+
+/// The number of the edge among the parameters.
+const EDGE: u8 = 6;
 
 /// The name of the parameter of this number.
 pub(crate) fn name_at(which: u8) -> &'static [u8]
-    requires { which < length parameters }
+    requires { which ≤ edge_number }
     ensures value { result.now ≡ name_at which }
     ensures short { length result.now ≤ 9 }
 {
@@ -20,11 +23,23 @@ pub(crate) fn name_at(which: u8) -> &'static [u8]
         2 => b"theta_den",
         3 => b"soft",
         4 => b"leaf",
-        _ => b"every",
+        5 => b"every",
+        _ => b"edge",
     }
 }
 
-/// The value of the parameter of this number.
+/// How the edge is written.
+fn edge_text(edge: Edge) -> &'static [u8]
+    ensures value { result.now ≡ text_of_edge edge }
+    ensures short { length result.now ≤ 4 }
+{
+    match edge {
+        Edge::Open => b"open",
+        Edge::Wrap => b"wrap",
+    }
+}
+
+/// The value of the one of the six of this number.
 fn value_at(params: &Params, which: u8) -> u64
     requires { which < length parameters }
     ensures { result ≡ slice_index (values_of params.now) which }
@@ -39,13 +54,15 @@ fn value_at(params: &Params, which: u8) -> u64
     }
 }
 
-/// The canonical line of the parameter of this number, from 0 on in the order of `Params`.
+/// The canonical line of the parameter of this number, from 0 to 6 in the order of `Params`.
 pub fn param_line(params: &Params, which: u8) -> Text
-    requires { which < length parameters }
+    requires { which ≤ edge_number }
     ensures { result ≡ canonical_line params.now which }
 {
-    Text::of(name_at(which))
-        .then(b" = ")
-        .number(value_at(params, which))
-        .then(b"\n")
+    let line = Text::of(name_at(which)).then(b" = ");
+    if which == EDGE {
+        line.then(edge_text(params.edge)).then(b"\n")
+    } else {
+        line.number(value_at(params, which)).then(b"\n")
+    }
 }

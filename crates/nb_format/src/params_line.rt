@@ -2,10 +2,12 @@
 
 ghost use Rattle.std.specs.Prelude.{◌≡◌, ◌==◌, ◌-◌, length, take, drop};
 ghost use Rattle.std.specs.List.{prefix_len, suffix_len, position};
-ghost use Rattle.nb_format.specs.ParamsText.{is_blank as is_blank_byte, trimmed, which_of as number_of_name, setting_of, content_of, line_of};
+ghost use Rattle.std.specs.Str.{bytes_eq};
+ghost use Rattle.nb_format.specs.ParamsText.{is_blank as is_blank_byte, trimmed, which_of as number_of_name, edge_of as edge_named, edge_name, setting_of, content_of, line_of};
 ghost use Rattle.nb_format.specs.ParamsReading.{SetsParameter};
 
 use crate::digits::long_number_of;
+use nb_model::Edge;
 
 /// What a line says.
 #[derive(Clone, Copy, PartialEq, Eq, Debug)]
@@ -14,8 +16,10 @@ pub(crate) enum Line {
     Skipped,
     /// The line isn't of the form, or its name isn't a parameter's.
     Malformed,
-    /// The number of a parameter, and its value, which may be out of its range.
+    /// The number of one of the six parameters, and its value, which may be out of its range.
     Setting(u8, u128),
+    /// The edge of the box.
+    Border(Edge),
 }
 
 /// The byte that begins a comment.
@@ -67,7 +71,25 @@ fn trim(text: &[u8]) -> &[u8]
     trim_end(trim_start(text))
 }
 
-/// The number of the parameter with this name.
+/// Whether a name is that of the edge.
+fn is_edge(name: &[u8]) -> bool
+    ensures { result ≡ bytes_eq edge_name name.now }
+{
+    matches!(name, b"edge")
+}
+
+/// The edge that a text names.
+fn edge_of(text: &[u8]) -> Option<Edge>
+    ensures { result ≡ edge_named text.now }
+{
+    match text {
+        b"open" => Some(Edge::Open),
+        b"wrap" => Some(Edge::Wrap),
+        _ => None,
+    }
+}
+
+/// The number of the one of the six with this name.
 fn which_of(name: &[u8]) -> Option<u8>
     ensures { result ≡ number_of_name name.now }
 {
@@ -82,17 +104,25 @@ fn which_of(name: &[u8]) -> Option<u8>
     }
 }
 
-/// What a name and a number say, each without outer blanks.
-fn setting(name: &[u8], number: &[u8]) -> Line
-    ensures { result ≡ setting_of (number_of_name name.now) number.now }
+/// What a name and a value say, each without outer blanks.
+#[tactic(auto, unfolding(crate::specs::ParamsText::setting_of))]
+fn setting(name: &[u8], value: &[u8]) -> Line
+    ensures { result ≡ setting_of name.now value.now }
 {
-    match (which_of(name), long_number_of(number)) {
+    if is_edge(name) {
+        return match edge_of(value) {
+            Some(edge) => Line::Border(edge),
+            None => Line::Malformed,
+        };
+    }
+    match (which_of(name), long_number_of(value)) {
         (Some(which), Some(value)) => Line::Setting(which, value),
         _ => Line::Malformed,
     }
 }
 
 /// What a line says that is empty or has no outer blanks.
+#[tactic(auto, using(crate::proofs::Settings::setting_of_nothing))]
 fn content(line: &[u8]) -> Line
     ensures { result ≡ content_of line.now }
 {

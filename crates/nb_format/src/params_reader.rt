@@ -8,7 +8,7 @@ ghost use Rattle.nb_format.specs.ParamsReading.{lines_from, SetsParameter};
 
 use crate::ParamsError;
 use crate::params_line::{Line, find, read_line};
-use nb_model::{BOX_SIDE, GM_LIMIT, MOST_TICKS, Params};
+use nb_model::{BOX_SIDE, Edge, GM_LIMIT, MOST_TICKS, Params};
 
 /// The most bytes of a parameter text.
 pub const MOST_TEXT: usize = 65536;
@@ -16,8 +16,8 @@ pub const MOST_TEXT: usize = 65536;
 /// The byte that ends a line.
 const LINE_END: u8 = b'\n';
 
-/// How many parameters there are.
-const PARAMETERS: usize = 6;
+/// How many parameters are numbers.
+const NUMBERS: usize = 6;
 
 /// The greatest numerator and denominator of the opening angle.
 const MOST_THETA: u64 = 32768;
@@ -25,8 +25,14 @@ const MOST_THETA: u64 = 32768;
 /// The most bodies of a leaf.
 const MOST_LEAF: u64 = 32;
 
-/// The values that were read, by the numbers of the parameters.
-type Values = [Option<u64>; PARAMETERS];
+/// What was read so far.
+#[derive(Clone, Copy)]
+pub(crate) struct Values {
+    /// The values of the six, by their numbers.
+    numbers: [Option<u64>; NUMBERS],
+    /// The edge.
+    edge: Option<Edge>,
+}
 
 /// The text before its first line end, and what lies behind it, where there is one.
 fn first_line(text: &[u8]) -> (&[u8], Option<&[u8]>)
@@ -78,16 +84,23 @@ fn add_line(number: u64, mut values: Values, line: Line) -> Result<Values, Param
         Line::Malformed => Err(ParamsError::Line(number)),
         Line::Setting(which, value) => {
             let place = usize::from(which);
-            if values[place].is_some() {
+            if values.numbers[place].is_some() {
                 return Err(ParamsError::Twice(number));
             }
             match value_in_range(which, value) {
                 Some(value) => {
-                    values[place] = Some(value);
+                    values.numbers[place] = Some(value);
                     Ok(values)
                 }
                 None => Err(ParamsError::Range(number)),
             }
+        }
+        Line::Border(edge) => {
+            if values.edge.is_some() {
+                return Err(ParamsError::Twice(number));
+            }
+            values.edge = Some(edge);
+            Ok(values)
         }
     }
 }
@@ -96,7 +109,10 @@ fn add_line(number: u64, mut values: Values, line: Line) -> Result<Values, Param
 fn read_lines(text: &[u8]) -> Result<Values, ParamsError>
     ensures { result ≡ with_lines 1 no_values (lines_of text.now) }
 {
-    let mut values = [None; PARAMETERS];
+    let mut values = Values {
+        numbers: [None; NUMBERS],
+        edge: None,
+    };
     let mut number = 1;
     let mut rest = Some(text);
     while let Some(text) = rest {
@@ -108,11 +124,11 @@ fn read_lines(text: &[u8]) -> Result<Values, ParamsError>
     Ok(values)
 }
 
-/// The parameters, where each has a value.
+/// The parameters, where each of the six has a value. Without an edge the box is open.
 fn complete(values: Values) -> Result<Params, ParamsError>
     ensures { result ≡ params_from values }
 {
-    let [grav, theta_num, theta_den, soft, leaf, every] = values;
+    let [grav, theta_num, theta_den, soft, leaf, every] = values.numbers;
     Ok(Params {
         grav: grav.ok_or(ParamsError::Missing(0))?,
         theta_num: theta_num.ok_or(ParamsError::Missing(1))?,
@@ -120,12 +136,14 @@ fn complete(values: Values) -> Result<Params, ParamsError>
         soft: soft.ok_or(ParamsError::Missing(3))?,
         leaf: leaf.ok_or(ParamsError::Missing(4))?,
         every: every.ok_or(ParamsError::Missing(5))?,
+        edge: values.edge.unwrap_or(Edge::Open),
     })
 }
 
 /// The parameters that a text gives: a line `name = value` each, in any order, beside empty lines and
-/// comments that begin with `#`. It refuses a text of more than `MOST_TEXT` bytes, unread; then the first
-/// faulty line; then the first parameter that is missing.
+/// comments that begin with `#`. The value of `edge`, which may be left out and then is `open`, is `open` or
+/// `wrap`, and that of each other name a number. It refuses a text of more than `MOST_TEXT` bytes, unread;
+/// then the first faulty line; then the first of the six numbers that is missing.
 pub fn read_params(text: &[u8]) -> Result<Params, ParamsError>
     ensures reads { result ≡ params_of text.now }
     ensures in_range { IfOk result AreInRange }

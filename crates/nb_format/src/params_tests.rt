@@ -1,7 +1,7 @@
 //! Parameter texts that were written by hand, with what is read of each.
 
 use super::*;
-use nb_model::Params;
+use nb_model::{Edge, Params};
 use std::test::*;
 
 /// The parameters of the worked texts.
@@ -12,6 +12,7 @@ const WORKED: Params = Params {
     soft: 1,
     leaf: 8,
     every: 100,
+    edge: Edge::Open,
 };
 
 const LEAST: Params = Params {
@@ -21,6 +22,7 @@ const LEAST: Params = Params {
     soft: 1,
     leaf: 1,
     every: 1,
+    edge: Edge::Open,
 };
 
 const GREATEST: Params = Params {
@@ -30,10 +32,21 @@ const GREATEST: Params = Params {
     soft: 1099511627775,
     leaf: 32,
     every: 1099511627776,
+    edge: Edge::Wrap,
 };
 
 /// Texts that give parameters.
-const ACCEPTED: [(&str, Params); 6] = [
+const ACCEPTED: [(&str, Params); 8] = [
+    (
+        "grav = 1000000000\ntheta_num = 1\ntheta_den = 2\nsoft = 1\nleaf = 8\nevery = 100\n\
+        edge = open\n",
+        WORKED,
+    ),
+    (
+        "\tedge=wrap \r\nevery = 1099511627776\nleaf = 32\nsoft = 1099511627775\n\
+        theta_den = 32768\ntheta_num = 32768\ngrav = 1152921504606846975",
+        GREATEST,
+    ),
     (
         "grav = 1000000000\ntheta_num = 1\ntheta_den = 2\nsoft = 1\nleaf = 8\nevery = 100\n",
         WORKED,
@@ -58,13 +71,34 @@ const ACCEPTED: [(&str, Params); 6] = [
     ),
     (
         "grav = 1152921504606846975\ntheta_num = 32768\ntheta_den = 32768\n\
-        soft = 1099511627775\nleaf = 32\nevery = 1099511627776\n",
+        soft = 1099511627775\nleaf = 32\nevery = 1099511627776\nedge = wrap\n",
         GREATEST,
     ),
 ];
 
 /// Texts that are refused.
-const REFUSED: [(&str, ParamsError); 46] = [
+const REFUSED: [(&str, ParamsError); 58] = [
+    // the edge
+    (
+        "grav = 1000000000\ntheta_num = 1\ntheta_den = 2\nsoft = 1\nleaf = 8\nevery = 100\n\
+        edge = both\n",
+        ParamsError::Line(7),
+    ),
+    (
+        "grav = 1000000000\ntheta_num = 1\ntheta_den = 2\nsoft = 1\nleaf = 8\nevery = 100\n\
+        edge = wrap\nedge = wrap\n",
+        ParamsError::Twice(8),
+    ),
+    ("edge = open\nedge = wrap\n", ParamsError::Twice(2)),
+    ("edge = wrap\nedge = both\n", ParamsError::Line(2)),
+    ("edge = wrap\nleaf = 33\n", ParamsError::Range(2)),
+    ("edge = wrap\n", ParamsError::Missing(0)),
+    ("edge = 1", ParamsError::Line(1)),
+    ("edge =", ParamsError::Line(1)),
+    ("edge", ParamsError::Line(1)),
+    ("edge = Open", ParamsError::Line(1)),
+    ("edges = open", ParamsError::Line(1)),
+    ("grav = open", ParamsError::Line(1)),
     // the worked texts, with one line changed or left out
     (
         "grav = 1000000000\ntheta_num = 1\ntheta_den = 2\nsoft = 1\nleaf = 8\n",

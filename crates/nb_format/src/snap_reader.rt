@@ -3,8 +3,9 @@
 ghost use Rattle.std.specs.Prelude.{◌≡◌, ◌≢◌, ℕ, ◌+◌, ◌*◌, ◌<◌, ◌≤◌, ◌↔◌, ◌⊎◌, IsTrue, IfOk, IfErr, OnOk, OnErr, IfSome, Ok, Err, None, Some, List, [], ◌∷◌, ◌++◌, length};
 ghost use Rattle.nb_model.specs.Limits.{most_bodies};
 ghost use Rattle.nb_host.specs.declared.host.TheConstants.{LAST_FILE, PLACE_LIMIT};
-ghost use Rattle.nb_host.specs.Faults.{Rose};
+ghost use Rattle.nb_host.specs.Crashes.{Stays};
 ghost use Rattle.nb_host.specs.Image.{readable};
+ghost use Rattle.nb_host.specs.Meaning.{Ran};
 ghost use Rattle.nb_format.specs.SnapshotRefusal.{IsBySnapshot};
 
 use crate::SnapError;
@@ -40,20 +41,16 @@ impl SnapReader {
     pub fn begin<H: Host>(host: &mut H, file: u64) -> Result<SnapReader, SnapError>
         requires { file ≤ LAST_FILE }
         ensures start { IfOk result (IsAtStart file) }
-        ensures header { IfOk result (λ reader. IsTrue (H.tells host.old)
-            → HasRead reader ((H.contents host.old).file file) []) }
-        ensures accepted { OnOk result (IsTrue (H.tells host.old)
-            → header_refusal ((H.contents host.old).file file) ≡ None) }
-        ensures refusal { IfErr result (λ e. IsTrue (H.tells host.old) → IsBySnapshot e
-            → header_refusal ((H.contents host.old).file file) ≡ Some e) }
-        ensures first { IfErr result (λ e. IsTrue (H.tells host.old) → IsBySnapshot e
-            → snapshot_refusal ((H.contents host.old).file file) ≡ Some e) }
+        ensures header { IfOk result (λ reader. IsTrue H.meaning.tells
+            → HasRead reader ((H.meaning.contents host.old).file file) []) }
+        ensures accepted { OnOk result (IsTrue H.meaning.tells
+            → header_refusal ((H.meaning.contents host.old).file file) ≡ None) }
+        ensures refusal { IfErr result (λ e. IsTrue H.meaning.tells → IsBySnapshot e
+            → header_refusal ((H.meaning.contents host.old).file file) ≡ Some e) }
+        ensures first { IfErr result (λ e. IsTrue H.meaning.tells → IsBySnapshot e
+            → snapshot_refusal ((H.meaning.contents host.old).file file) ≡ Some e) }
         ensures code { IfErr result (λ e. IsBySnapshot e → IsOfHeader e) }
-        ensures same { H.contents host.new ≡ H.contents host.old }
-        ensures told { H.tells host.new ≡ H.tells host.old }
-        ensures faults { H.faults host.old ≤ H.faults host.new }
-        ensures fault { result ≡ Err SnapError.Fault → Rose (H.faults host.old) (H.faults host.new) }
-        ensures refused { H.refused_says host.new ≡ H.refused_says host.old }
+        ensures ran { Ran H.meaning SnapError.Fault Stays host.old host.new result }
     {
         let length = host.len(file)?;
         if length < HEADER_LENGTH as u64 {
@@ -101,35 +98,31 @@ impl SnapReader {
         ensures code { IfErr result (λ e. IsBySnapshot e → IsOfRecord (read_count self.old) e) }
 
         // What the file holds now, where the host tells.
-        ensures accepted { IfOk result (λ found. IfSome found (λ _. IsTrue (H.tells host.old)
-            → next_refusal self.old ((H.contents host.old).file (file_of self.old)) ≡ None)) }
-        ensures reason { IfErr result (λ e. IsTrue (H.tells host.old) → IsBySnapshot e
-            → next_refusal self.old ((H.contents host.old).file (file_of self.old)) ≡ Some e) }
-        ensures short { IsTrue (H.tells host.old) → read_count self.old < count_of self.old
-            → length ((H.contents host.old).file (file_of self.old))
+        ensures accepted { IfOk result (λ found. IfSome found (λ _. IsTrue H.meaning.tells
+            → next_refusal self.old ((H.meaning.contents host.old).file (file_of self.old)) ≡ None)) }
+        ensures reason { IfErr result (λ e. IsTrue H.meaning.tells → IsBySnapshot e
+            → next_refusal self.old ((H.meaning.contents host.old).file (file_of self.old)) ≡ Some e) }
+        ensures short { IsTrue H.meaning.tells → read_count self.old < count_of self.old
+            → length ((H.meaning.contents host.old).file (file_of self.old))
             < snapshot_length (read_count self.old + 1)
             → OnOk result ⊥ }
 
         // What the file holds, where the host tells: `bytes` is what it held when `begin` read its header.
-        ensures body { (bytes : List ℕ) (bodies : List Body) → IsTrue (H.tells host.old)
-            → HasRead self.old bytes bodies → IsFrontOf bytes ((H.contents host.old).file (file_of self.old))
+        ensures body { (bytes : List ℕ) (bodies : List Body) → IsTrue H.meaning.tells
+            → HasRead self.old bytes bodies → IsFrontOf bytes ((H.meaning.contents host.old).file (file_of self.old))
             → IfOk result (λ found. IfSome found (λ body. HasRead self.new bytes (bodies ++ body ∷ []))) }
         ensures whole { (bytes : List ℕ) (bodies : List Body) → HasRead self.old bytes bodies
             → result ≡ Ok None → IsSnapshot bytes bodies (time_of self.old) }
-        ensures first { (bytes : List ℕ) (bodies : List Body) → IsTrue (H.tells host.old)
-            → HasRead self.old bytes bodies → (H.contents host.old).file (file_of self.old) ≡ bytes
+        ensures first { (bytes : List ℕ) (bodies : List Body) → IsTrue H.meaning.tells
+            → HasRead self.old bytes bodies → (H.meaning.contents host.old).file (file_of self.old) ≡ bytes
             → IfErr result (λ e. IsBySnapshot e → snapshot_refusal bytes ≡ Some e) }
-        ensures shorter { (bytes : List ℕ) (bodies : List Body) → IsTrue (H.tells host.old)
-            → HasRead self.old bytes bodies → IsFrontOf bytes ((H.contents host.old).file (file_of self.old))
+        ensures shorter { (bytes : List ℕ) (bodies : List Body) → IsTrue H.meaning.tells
+            → HasRead self.old bytes bodies → IsFrontOf bytes ((H.meaning.contents host.old).file (file_of self.old))
             → IfErr result (λ e. IsBySnapshot e → (snapshot_refusal bytes ≡ Some e)
-            ⊎ (length ((H.contents host.old).file (file_of self.old))
+            ⊎ (length ((H.meaning.contents host.old).file (file_of self.old))
             < snapshot_length (read_count self.old + 1))) }
 
-        ensures same { H.contents host.new ≡ H.contents host.old }
-        ensures told { H.tells host.new ≡ H.tells host.old }
-        ensures faults { H.faults host.old ≤ H.faults host.new }
-        ensures fault { result ≡ Err SnapError.Fault → Rose (H.faults host.old) (H.faults host.new) }
-        ensures refused { H.refused_says host.new ≡ H.refused_says host.old }
+        ensures ran { Ran H.meaning SnapError.Fault Stays host.old host.new result }
     {
         if self.read == self.count {
             return Ok(None);
@@ -175,16 +168,12 @@ impl SnapReader {
 fn read_whole<H: Host>(host: &mut H, file: u64, at: u64, into: &mut [u8]) -> Result<(), SnapError>
     requires number { file ≤ LAST_FILE }
     requires place { at + length into.old < PLACE_LIMIT }
-    ensures read { OnOk result (IsTrue (H.tells host.old)
-        → into.new ≡ readable at (length into.old) ((H.contents host.old).file file)) }
-    ensures short { result ≡ Err SnapError.Length → IsTrue (H.tells host.old)
-        → length ((H.contents host.old).file file) < at + length into.old }
+    ensures read { OnOk result (IsTrue H.meaning.tells
+        → into.new ≡ readable at (length into.old) ((H.meaning.contents host.old).file file)) }
+    ensures short { result ≡ Err SnapError.Length → IsTrue H.meaning.tells
+        → length ((H.meaning.contents host.old).file file) < at + length into.old }
     ensures code { IfErr result (λ e. IsBySnapshot e → e ≡ SnapError.Length) }
-    ensures same { H.contents host.new ≡ H.contents host.old }
-    ensures told { H.tells host.new ≡ H.tells host.old }
-    ensures faults { H.faults host.old ≤ H.faults host.new }
-    ensures fault { result ≡ Err SnapError.Fault → Rose (H.faults host.old) (H.faults host.new) }
-    ensures refused { H.refused_says host.new ≡ H.refused_says host.old }
+    ensures ran { Ran H.meaning SnapError.Fault Stays host.old host.new result }
 {
     let wanted = into.len();
     let found = host.read_at(file, at, into)?;

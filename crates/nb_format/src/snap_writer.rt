@@ -9,8 +9,8 @@ ghost use Rattle.std.specs.Prelude.{◌≡◌, ℕ, ◌+◌, ◌<◌, ◌≤◌,
 ghost use Rattle.std.specs.Option.{ForSome};
 ghost use Rattle.nb_model.specs.Limits.{most_bodies};
 ghost use Rattle.nb_host.specs.declared.host.TheConstants.{LAST_FILE};
-ghost use Rattle.nb_host.specs.Faults.{CountsFault};
 ghost use Rattle.nb_host.specs.Image.{FileBecomes};
+ghost use Rattle.nb_host.specs.Meaning.{Over, Counts};
 
 use crate::header::{self, GATE};
 use crate::length::snapshot_length;
@@ -74,14 +74,11 @@ impl Fresh {
     /// unfinished.
     pub fn begin<H: Host>(self, host: &mut H) -> Result<Filling, HostError>
         ensures empty { IfOk result (IsEmptyFilling (fresh_plan self)) }
-        ensures begun { OnOk result (IsTrue (H.tells host.old)
-            → FileBecomes (fresh_plan self).file (IsBegun (fresh_plan self))
-            (H.contents host.old) (H.contents host.new)) }
-        ensures unfinished { IsTrue (H.tells host.old)
-            → FileBecomes (fresh_plan self).file StaysUnfinished (H.contents host.old) (H.contents host.new) }
-        ensures told { H.tells host.new ≡ H.tells host.old }
-        ensures fault { CountsFault (H.faults host.old) (H.faults host.new) result }
-        ensures refused { H.refused_says host.new ≡ H.refused_says host.old }
+        ensures begun { OnOk result (Over H.meaning
+            (FileBecomes (fresh_plan self).file (IsBegun (fresh_plan self))) host.old host.new) }
+        ensures unfinished { Over H.meaning (FileBecomes (fresh_plan self).file StaysUnfinished)
+            host.old host.new }
+        ensures counts { Counts H.meaning HostError.Fault host.old host.new result }
     {
         self.shut(host)?;
         let Fresh { file, count, time } = self;
@@ -98,14 +95,11 @@ impl Fresh {
 
     /// Leaves nothing of the file but a durable 0 in place of its gate.
     fn shut<H: Host>(&self, host: &mut H) -> Result<(), HostError>
-        ensures shut { OnOk result (IsTrue (H.tells host.old)
-            → FileBecomes (fresh_plan self.now).file IsShut (H.contents host.old) (H.contents host.new)) }
-        ensures unfinished { IsTrue (H.tells host.old)
-            → FileBecomes (fresh_plan self.now).file StaysUnfinished (H.contents host.old)
-            (H.contents host.new) }
-        ensures told { H.tells host.new ≡ H.tells host.old }
-        ensures fault { CountsFault (H.faults host.old) (H.faults host.new) result }
-        ensures refused { H.refused_says host.new ≡ H.refused_says host.old }
+        ensures shut { OnOk result
+            (Over H.meaning (FileBecomes (fresh_plan self.now).file IsShut) host.old host.new) }
+        ensures unfinished { Over H.meaning (FileBecomes (fresh_plan self.now).file StaysUnfinished)
+            host.old host.new }
+        ensures counts { Counts H.meaning HostError.Fault host.old host.new result }
     {
         host.cut(self.file, BEHIND_GATE)?;
         host.sync()?;
@@ -125,15 +119,12 @@ impl Filling {
         requires valid { IsValidBody body.now }
         requires rises { ForSome (last_added self) (λ id. id < body.now.id) }
         ensures added { IfOk result (HasOneMore body.now self) }
-        ensures filled { (bodies : List Body) → IsTrue (H.tells host.old)
-            → HasFilled self ((H.contents host.old).file (plan_of self).file) bodies
-            → IfOk result (λ filling. HasFilled filling ((H.contents host.new).file (plan_of self).file)
+        ensures filled { (bodies : List Body) → IsTrue H.meaning.tells
+            → HasFilled self ((H.meaning.contents host.old).file (plan_of self).file) bodies
+            → IfOk result (λ filling. HasFilled filling ((H.meaning.contents host.new).file (plan_of self).file)
             (bodies ++ body.now ∷ [])) }
-        ensures shut { IsTrue (H.tells host.old)
-            → FileBecomes (plan_of self).file StaysShut (H.contents host.old) (H.contents host.new) }
-        ensures told { H.tells host.new ≡ H.tells host.old }
-        ensures fault { CountsFault (H.faults host.old) (H.faults host.new) result }
-        ensures refused { H.refused_says host.new ≡ H.refused_says host.old }
+        ensures shut { Over H.meaning (FileBecomes (plan_of self).file StaysShut) host.old host.new }
+        ensures counts { Counts H.meaning HostError.Fault host.old host.new result }
     {
         let Filling {
             file,
@@ -157,17 +148,15 @@ impl Filling {
     pub fn close<H: Host>(self, host: &mut H) -> Result<Closed, HostError>
         requires { added_count self ≡ (plan_of self).count }
         ensures closed { IfOk result (λ closed. closed_file closed ≡ (plan_of self).file) }
-        ensures finished { (bodies : List Body) → IsTrue (H.tells host.old)
-            → HasFilled self ((H.contents host.old).file (plan_of self).file) bodies
+        ensures finished { (bodies : List Body) → IsTrue H.meaning.tells
+            → HasFilled self ((H.meaning.contents host.old).file (plan_of self).file) bodies
             → OnOk result (FileBecomes (plan_of self).file (IsFinishedAs bodies (plan_of self).time)
-            (H.contents host.old) (H.contents host.new)) }
-        ensures either { (bodies : List Body) → IsTrue (H.tells host.old)
-            → HasFilled self ((H.contents host.old).file (plan_of self).file) bodies
+            (H.meaning.contents host.old) (H.meaning.contents host.new)) }
+        ensures either { (bodies : List Body) → IsTrue H.meaning.tells
+            → HasFilled self ((H.meaning.contents host.old).file (plan_of self).file) bodies
             → FileBecomes (plan_of self).file (IsFinishedOrNot bodies (plan_of self).time)
-            (H.contents host.old) (H.contents host.new) }
-        ensures told { H.tells host.new ≡ H.tells host.old }
-        ensures fault { CountsFault (H.faults host.old) (H.faults host.new) result }
-        ensures refused { H.refused_says host.new ≡ H.refused_says host.old }
+            (H.meaning.contents host.old) (H.meaning.contents host.new) }
+        ensures counts { Counts H.meaning HostError.Fault host.old host.new result }
     {
         let Filling { file, .. } = self;
         host.sync()?;

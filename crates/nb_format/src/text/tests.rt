@@ -1,7 +1,7 @@
 //! The lines as a terminal shows them, with the numbers of small runs and with the greatest numbers.
 
 use crate::*;
-use nb_model::Params;
+use nb_model::{Edge, Params};
 use std::test::*;
 
 /// The greatest number of 64 bits, 18446744073709551615.
@@ -69,6 +69,11 @@ fn lines_of_parameters(rt: HostRuntime) -> Result<(), Fail> {
         soft: 1,
         leaf: 8,
         every: 100,
+        edge: Edge::Open,
+    };
+    let wrapped = Params {
+        edge: Edge::Wrap,
+        ..params
     };
     let lines = [
         (param_line(&params, 0), "grav = 1000000000\n"),
@@ -77,6 +82,8 @@ fn lines_of_parameters(rt: HostRuntime) -> Result<(), Fail> {
         (param_line(&params, 3), "soft = 1\n"),
         (param_line(&params, 4), "leaf = 8\n"),
         (param_line(&params, 5), "every = 100\n"),
+        (param_line(&params, 6), "edge = open\n"),
+        (param_line(&wrapped, 6), "edge = wrap\n"),
     ];
     assert_eq!(rt; first_other(&lines), None);
     Ok(())

@@ -2,6 +2,7 @@ use Rattle.std.proofs.Common.{ℕ, List, take, sym, ap, subst, ◌∙◌, arith}
 use Rattle.std.specs.Prelude.{IsTrue}
 use Rattle.std.proofs.lemmas.Result.{err_from_is_err_and, IfErr-weaker}
 use Rattle.nb_host.specs.Image.{Image}
+use Rattle.nb_host.proofs.Callers.{stays_contents}
 use Rattle.nb_format.specs.Snapshot.{IsHeader}
 use Rattle.nb_format.specs.SnapshotRefusal.{header_field_refusal}
 use Rattle.nb_format.proofs.HeaderRefusals.{short_is, field_is, length_is, header_none}
@@ -19,8 +20,7 @@ returns-in_err-count-clause-refusal g c =
     let p = err_from_is_err_and c.from_residual-in_err-count.result c.from_residual-in_err-count.ensures.1 in
     rw (p.1, p.2)
     (λ tells _.
-    let still = subst IsTrue (sym c.in_ok-length.ensures.told) tells in
-    let bytes = c.in_ok-read_whole.ensures.read still ∙ ap (λ (image : Image). take 32 (image.file c.args.file)) c.in_ok-length.ensures.same in
+    let bytes = c.in_ok-read_whole.ensures.read tells ∙ ap (λ (image : Image). take 32 (image.file c.args.file)) (stays_contents c.in_ok-length.ensures.ran.leads) in
     field_is _ _ (omega (arith, c.if-length.false, c.in_ok-length.ensures.length tells)) (ap header_field_refusal (sym bytes) ∙ c.in_err-count.ensures.refusal))
 
 pub returns-in_err-count-clause-first : goal.returns-in_err-count-clause-first
@@ -29,8 +29,7 @@ returns-in_err-count-clause-first g c =
 
 pub returns-then-length-snapshot_length-clause-refusal : goal.returns-then-length-snapshot_length-clause-refusal
 returns-then-length-snapshot_length-clause-refusal g c = λ tells _.
-    let still = subst IsTrue (sym c.in_ok-length.ensures.told) tells in
-    let bytes = c.in_ok-read_whole.ensures.read still ∙ ap (λ (image : Image). take 32 (image.file c.args.file)) c.in_ok-length.ensures.same in
+    let bytes = c.in_ok-read_whole.ensures.read tells ∙ ap (λ (image : Image). take 32 (image.file c.args.file)) (stays_contents c.in_ok-length.ensures.ran.leads) in
     let long = c.in_ok-length.ensures.length tells in
     length_is _ c.in_ok-count.field-0.count c.in_ok-count.field-0.time
     (subst (λ (w : List ℕ). IsHeader w c.in_ok-count.field-0.count c.in_ok-count.field-0.time) bytes c.in_ok-count.ensures.header)
@@ -41,8 +40,7 @@ returns-then-length-snapshot_length-clause-first g c = λ tells by. header_refus
 
 pub returns-clause-accepted : goal.returns-clause-accepted
 returns-clause-accepted g c = λ tells.
-    let still = subst IsTrue (sym c.in_ok-length.ensures.told) tells in
-    let bytes = c.in_ok-read_whole.ensures.read still ∙ ap (λ (image : Image). take 32 (image.file c.args.file)) c.in_ok-length.ensures.same in
+    let bytes = c.in_ok-read_whole.ensures.read tells ∙ ap (λ (image : Image). take 32 (image.file c.args.file)) (stays_contents c.in_ok-length.ensures.ran.leads) in
     let header = subst (λ (w : List ℕ). IsHeader w c.in_ok-count.field-0.count c.in_ok-count.field-0.time) bytes c.in_ok-count.ensures.header in
     header_none _ c.in_ok-count.field-0.count c.in_ok-count.field-0.time header.spelled header.few
     (sym (c.in_ok-length.ensures.length tells) ∙ c.if-length-snapshot_length.false ∙ c.snapshot_length.ensures)

@@ -13,7 +13,7 @@ returns-in_err-body-clause-reason g c =
     rw (p.1, p.2)
     (λ tells _.
     let reader = c.args.self.now in
-    let file = (g.H.Host.contents c.args.host.now).file reader.file in
+    let file = (g.H.Host.meaning.contents c.args.host.now).file reader.file in
     let read = c.in_ok-read_whole.ensures.read tells ∙ ap (λ (at : ℕ). take 64 (drop at file)) c.snapshot_length.ensures in
     next_is_record reader file c.read_whole.new.into read c.read_whole.auto.into ∙ c.in_err-body.ensures.refusal)
 
@@ -25,7 +25,7 @@ returns-in_err-body-clause-first g c = λ bytes bodies tells has still.
     let reader = c.args.self.now in
     let within = reader.within in
     let more : read_count reader < count_of reader = omega (arith, c.if-self.false) in
-    let read = c.in_ok-read_whole.ensures.read tells ∙ ap (λ (at : ℕ). take 64 (drop at ((g.H.Host.contents c.args.host.now).file reader.file))) c.snapshot_length.ensures in
+    let read = c.in_ok-read_whole.ensures.read tells ∙ ap (λ (at : ℕ). take 64 (drop at ((g.H.Host.meaning.contents c.args.host.now).file reader.file))) c.snapshot_length.ensures in
     let held = read ∙ ap (λ (w : List ℕ). take 64 (drop (snapshot_length reader.read) w)) still in
     record_refused reader bytes bodies _ has reader.few more (ap (record_refusal reader.read reader.last) (sym held) ∙ c.in_err-body.ensures.refusal))
 
@@ -35,7 +35,7 @@ returns-in_err-body-clause-shorter g c = λ bytes bodies tells has front.
     rw (p.1, p.2)
     (λ _.
     let reader = c.args.self.now in
-    let file = (g.H.Host.contents c.args.host.now).file reader.file in
+    let file = (g.H.Host.meaning.contents c.args.host.now).file reader.file in
     let within = reader.within in
     let more : read_count reader < count_of reader = omega (arith, c.if-self.false) in
     let read = c.in_ok-read_whole.ensures.read tells ∙ ap (λ (at : ℕ). take 64 (drop at file)) c.snapshot_length.ensures in
@@ -45,14 +45,14 @@ returns-in_err-body-clause-shorter g c = λ bytes bodies tells has front.
 pub returns-clause-accepted : goal.returns-clause-accepted
 returns-clause-accepted g c = λ tells.
     let reader = c.args.self.now in
-    let file = (g.H.Host.contents c.args.host.now).file reader.file in
+    let file = (g.H.Host.meaning.contents c.args.host.now).file reader.file in
     let read = c.in_ok-read_whole.ensures.read tells ∙ ap (λ (at : ℕ). take 64 (drop at file)) c.snapshot_length.ensures in
     next_is_record reader file c.read_whole.new.into read c.read_whole.auto.into ∙ c.in_ok-body.ensures.accepted
 
 pub returns-clause-body : goal.returns-clause-body
 returns-clause-body g c = λ bytes bodies tells has front.
     let reader = c.args.self.now in
-    let file = (g.H.Host.contents c.args.host.now).file reader.file in
+    let file = (g.H.Host.meaning.contents c.args.host.now).file reader.file in
     let within = reader.within in
     let more : read_count reader < count_of reader = omega (arith, c.if-self.false) in
     let read = c.in_ok-read_whole.ensures.read tells ∙ ap (λ (at : ℕ). take 64 (drop at file)) c.snapshot_length.ensures in
@@ -63,7 +63,7 @@ returns-clause-body g c = λ bytes bodies tells has front.
 pub returns-clause-short : goal.returns-clause-short
 returns-clause-short g c = λ tells more short.
     let reader = c.args.self.now in
-    let file = (g.H.Host.contents c.args.host.now).file reader.file in
+    let file = (g.H.Host.meaning.contents c.args.host.now).file reader.file in
     let read = c.in_ok-read_whole.ensures.read tells ∙ ap (λ (at : ℕ). take 64 (drop at file)) c.snapshot_length.ensures in
     let inside = whole_inside file c.read_whole.new.into (snapshot_length reader.read) read c.read_whole.auto.into in
     omega arith

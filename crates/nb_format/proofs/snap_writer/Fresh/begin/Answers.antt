@@ -1,7 +1,7 @@
 use Rattle.std.proofs.Common.{◌≡◌, List, ℕ, take, sym, ap, subst, ◌∙◌, drop}
 use Rattle.std.specs.Prelude.{IsTrue}
 use Rattle.nb_host.specs.Image.{overwritten}
-use Rattle.nb_host.proofs.Steps.{becomes_then}
+use Rattle.nb_host.proofs.Callers.{becomes_then}
 use Rattle.nb_format.specs.Snapshot.{header_bytes}
 use Rattle.nb_format.specs.Writer.{fresh_plan}
 use Rattle.nb_format.proofs.Writing.{begun_is, behind_gate}
@@ -9,8 +9,7 @@ use Rattle.nb_format.proofs.snap_writer.Fresh.begin.Goals as goal
 
 pub returns-clause-begun : goal.returns-clause-begun
 returns-clause-begun g c = λ tells.
-    let still = subst IsTrue (sym c.in_ok-shut.ensures.told) tells in
     let rest : take 31 (drop 1 c.encode-header.result) ≡ drop 1 (header_bytes c.args.self.count c.args.self.time) =
     ap (λ (w : List ℕ). take 31 (drop 1 w)) c.encode-header.ensures ∙ behind_gate c.args.self.count c.args.self.time in
-    becomes_then (c.in_ok-shut.ensures.shut tells) (c.in_ok-write_at.ensures.written still)
+    becomes_then (c.in_ok-shut.ensures.shut tells) (c.in_ok-write_at.ensures.written tells)
     (λ before between after is put. begun_is (fresh_plan c.args.self) between after is (put ∙ ap (λ (w : List ℕ). overwritten 1 w between) rest))
