@@ -84,8 +84,8 @@ fn along(scale: &Scale, difference: i64) -> i64
     if difference < 0 { -size } else { size }
 }
 
-/// The half kick that a mass at `centre`, or in a box that wraps its nearest image, gives to a body at `from`,
-/// in box units a tick.
+/// The half kick that a mass at `centre`, or in a box that wraps its nearest image, gives to a body at
+/// `from`, in box units a tick.
 pub fn pull(params: &Params, from: &At, mass: u64, centre: &At) -> V3
     requires params { AreInRange params.now }
     requires from { IsInBox from.now }
