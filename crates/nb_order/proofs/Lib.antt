@@ -1,5 +1,4 @@
-pub mod Calls
-pub mod Copying
-pub mod Pushing
-pub mod Reading
-pub mod Sorting
+mod Copying
+mod Pushing
+mod Reading
+mod Sorting

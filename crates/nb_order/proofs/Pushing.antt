@@ -8,9 +8,8 @@ use Rattle.nb_model.specs.declared.body.V3.{V3}
 use Rattle.nb_model.specs.declared.body.Body.{Body}
 use Rattle.nb_host.specs.declared.page_name.TheConstants.{PAGE_SIZE}
 use Rattle.nb_host.specs.Page.{page_start, page_of, HasPage}
-use Rattle.nb_host.specs.Image.{IsTorn, overwritten}
-use Rattle.nb_host.proofs.Steps.{overwritten_is_torn, overwritten-within}
-use Rattle.nb_cache.proofs.Fitting.{page_stays, page_written}
+use Rattle.nb_host.specs.Image.{IsTorn, overwritten, readable}
+use Rattle.nb_host.proofs.Callers.{overwritten_is_torn, overwritten-within, readable-overwritten, readable-torn_after}
 use Rattle.nb_record.specs.Order.{pages_for, count_on, record_of, HoldsBodies}
 use Rattle.nb_record.specs.declared.sizes.TheConstants.{BODIES_PER_PAGE, BODY_SIZE}
 use Rattle.nb_record.specs.Pages.{page_number, page_count, IsBodyPage}
@@ -39,10 +38,10 @@ module _ (p : ℕ) (page file : List ℕ) (size : length page ≡ PAGE_SIZE) (fr
   page_below : (q : ℕ) → q < p → page_of grown q ≡ page_of file q
   page_below q below =
       let torn = subst (λ n. IsTorn (page_start p) n file grown) size (overwritten_is_torn (page_start p) page file) in
-      page_stays p q file grown torn (omega arith) (λ same. omega arith)
+      readable-torn_after (page_start q) PAGE_SIZE torn (omega arith) (omega arith)
 
   page_here : page_of grown p ≡ page
-  page_here = page_written p page file size
+  page_here = ap (λ n. readable (page_start p) n grown) (sym size) ∙ readable-overwritten (page_start p) page file
 
   length-grown : length file ≤ page_start (p + 1) → length grown ≡ page_start (p + 1)
   length-grown to =

@@ -25,4 +25,4 @@ returns-in_err-fetch-clause-short g c =
     let was = c.in_err-fetch.was ∙ ap Err short in
     let same = only_one c.args.name other (c.fetch.ensures.named other was) in
     (c.fetch.ensures.short other was tells).short
-    (subst (IsWhole c.args.cache.now (g.H.Host.contents c.args.host.now)) (sym same) whole)
+    (subst (IsWhole c.args.cache.now (g.H.Host.meaning.contents c.args.host.now)) (sym same) whole)
