@@ -1,8 +1,7 @@
 -- A file of bodies, as far as it is copied.
 use Rattle.std.proofs.Common.{◌≡◌, ℕ, ◌+◌, ◌<◌, List, [], ◌∷◌, ◌++◌, length, Some, inl, inr, refl, sym, ap, subst, ◌∙◌, arith, append_assoc, append-nil, length-append}
 use Rattle.std.specs.Prelude.{slice_get}
-use Rattle.std.proofs.lemmas.Bool.{cases_lt}
-use Rattle.std.proofs.lemmas.Option.{same_Some, slice_get_within}
+use Rattle.std.proofs.lemmas.Option.{slice_get_within}
 use Rattle.nb_model.specs.declared.body.V3.{V3}
 use Rattle.nb_model.specs.declared.body.Body.{Body}
 use Rattle.nb_record.specs.declared.sizes.TheConstants.{BODY_SIZE}
@@ -11,7 +10,7 @@ use Rattle.nb_record.specs.Writing.{IsZeroPaddedFile}
 use Rattle.nb_record.specs.Order.{record_of, HoldsBodies}
 use Rattle.nb_order.specs.Files.{IsPushed}
 use Rattle.nb_order.specs.Places.{AreNumbersOf, HasKicks, IsCopyOf}
-use Rattle.nb_order.proofs.Pushing.{pushed_before, pushed_here}
+use Rattle.nb_order.proofs.Pushing.{kicks_pushed}
 
 -- an empty file holds no body
 pub holds_none : (file : List ℕ) → file ≡ [] → HoldsBodies file []
@@ -79,27 +78,13 @@ copied_next from bodies list count index numbers rest file is so_far =
         numbered = left.1;
       }
 
--- the kicks of one body more
-kicks_more : (from file after : List ℕ) (bodies copied : List Body) (body : Body) (kick : V3) (index : ℕ) → IsCopyOf from bodies file copied
-    → slice_get bodies index ≡ Some body → kick ≡ kick_of (record_of from index) → IsPushed copied body kick file after
-    → (kicks : Body → V3) → HasKicks from kicks bodies → HasKicks after kicks (copied ++ body ∷ [])
-kicks_more from file after bodies copied body kick index copy there is pushed kicks has j b at =
-    elim (cases_lt j (length copied)) [
-      | inl before ↦ ap kick_of (pushed.records j before) ∙ copy.kicks kicks has j b (sym (pushed_before copied body j before) ∙ at)
-      | inr behind ↦
-          let within = slice_get_within (copied ++ body ∷ []) j b at in
-          let last : length copied ≡ j = omega (arith, length-append copied (body ∷ [])) in
-          let same : body ≡ b = same_Some body b (sym (pushed_here copied body) ∙ ap (slice_get (copied ++ body ∷ [])) last ∙ at) in
-          ap (λ i. kick_of (record_of after i)) (sym last) ∙ pushed.last ∙ is ∙ has index body there ∙ ap kicks same
-    ]
-
 -- a copy with one body more
 pub copy_more : (from file after : List ℕ) (bodies copied : List Body) (body : Body) (kick : V3) (index : ℕ) → IsCopyOf from bodies file copied
     → slice_get bodies index ≡ Some body → kick ≡ kick_of (record_of from index) → IsPushed copied body kick file after
     → IsCopyOf from bodies after (copied ++ body ∷ [])
 copy_more from file after bodies copied body kick index copy there is pushed = record {
   holds = pushed.holds;
-  kicks = kicks_more from file after bodies copied body kick index copy there is pushed;
+  kicks = λ kicks has. kicks_pushed file after copied body kick kicks (copy.kicks kicks has) (is ∙ has index body there) pushed;
   padded = pushed.padded copy.padded;
 }
 

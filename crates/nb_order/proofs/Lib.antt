@@ -1,4 +1,6 @@
+pub mod Callers
 mod Copying
 mod Pushing
 mod Reading
+mod Refusing
 mod Sorting

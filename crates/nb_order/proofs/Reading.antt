@@ -1,5 +1,5 @@
 -- A body of a file, and the page on which it stands.
-use Rattle.std.proofs.Common.{◌≡◌, ℕ, zero, suc, ◌+◌, ◌*◌, ◌/◌, ◌%◌, ◌<◌, ◌≤◌, IsTrue, List, [], ◌∷◌, ◌++◌, Some, length, inl, inr, refl, sym, ap, subst, ◌∙◌, arith}
+use Rattle.std.proofs.Common.{◌≡◌, ℕ, zero, suc, ◌+◌, ◌*◌, ◌/◌, ◌%◌, ◌<◌, ◌≤◌, IsTrue, Bool, true, false, cond, not, eqb, leb, Ok, Err, List, [], ◌∷◌, ◌++◌, Some, length, inl, inr, refl, sym, ap, subst, ◌∙◌, arith}
 use Rattle.std.specs.Prelude.{slice_get, ◌≢◌}
 use Rattle.std.proofs.lemmas.Bool.{cases_lt}
 use Rattle.std.proofs.lemmas.List.{length_push}
@@ -12,13 +12,29 @@ use Rattle.nb_model.specs.declared.body.V3.{V3}
 use Rattle.nb_model.specs.declared.body.Body.{Body}
 use Rattle.nb_record.specs.declared.sizes.TheConstants.{BODIES_PER_PAGE}
 use Rattle.nb_record.specs.Order.{pages_for, count_on, record_of, HoldsBodies, HoldsKickedBodies, HaveDifferentIds}
-use Rattle.nb_record.specs.Pages.{page_count, IsBodyPage}
+use Rattle.nb_record.specs.Fields.{word}
+use Rattle.nb_record.specs.declared.header.PageError.{PageError}
+use Rattle.nb_record.specs.declared.header.PageError.TheVariants.{Number, Count, Next}
+use Rattle.nb_record.specs.Pages.{page_number, page_count, page_next, read_body_page, IsBodyPage}
 use Rattle.nb_record.specs.Records.{body_record, body_of, kick_of, IsBodyRecord}
 use Rattle.nb_record.proofs.Callers.{page_within, place_within}
 use Rattle.nb_order.specs.Files.{page_of_body, HasBody, HasRoomFor, IsBodyAt, IsUnsortable}
 use Rattle.nb_order.specs.Places.{HasFirst}
 use Rattle.nb_order.specs.Refusals.{IsNoBody, HasNoRoom}
 use Rattle.nb_order.proofs.Pushing.{pushed_before, pushed_here}
+
+tests_same : (number count next zeros : Bool) (bytes bodies : List ℕ)
+    → cond (not number) (Err Number) (cond (not count) (Err Count) (cond (not next) (Err Next) (cond (not zeros) (Err Next) (Ok bytes)))) ≡ Ok bodies → bodies ≡ bytes
+tests_same true true true true bytes bodies is = cc
+tests_same true true true false bytes bodies is = absurd (cc)
+tests_same true true false zeros bytes bodies is = absurd (cc)
+tests_same true false next zeros bytes bodies is = absurd (cc)
+tests_same false count next zeros bytes bodies is = absurd (cc)
+
+-- a page that a check answers is the bytes
+pub checked_same : (page : ℕ) (bytes bodies : List ℕ) → read_body_page page bytes ≡ Ok bodies → bodies ≡ bytes
+checked_same page bytes bodies is =
+    tests_same (eqb (page_number bytes) page) (leb (page_count bytes) BODIES_PER_PAGE) (eqb (page_next bytes) 0) (eqb (word 24 bytes) 0) bytes bodies is
 
 -- what was read of the record of body j on its page
 pub record IsRead (bytes : List ℕ) (page j : ℕ) (body : Body) (kick : V3) : Type 0 where

@@ -145,7 +145,7 @@ fn copy<H: Host>(
         → HasFirst (seen H.meaning cache.old host.old from) bodies
         → AreNumbersOf bodies (values places.now) list
         → IsCopyOf (seen H.meaning cache.old host.old from) bodies
-            (seen H.meaning cache.new host.new to) list) }
+        (seen H.meaning cache.new host.new to) list) }
     ensures page { (name : PageNames) → result ≡ Err (OrderError.Damaged name)
         → (name.file ≡ from) ⊎ (name.file ≡ to) }
     ensures damaged { (name : PageNames) → result ≡ Err (OrderError.Damaged name) → IsTrue H.meaning.tells
@@ -179,17 +179,17 @@ fn copy_body<H: Host>(
     ensures copied { OnOk result (IsTrue H.meaning.tells → (bodies copied : List Bodies) (body : Bodies)
         → HasFirst (seen H.meaning cache.old host.old from) bodies
         → IsCopyOf (seen H.meaning cache.old host.old from) bodies
-            (seen H.meaning cache.old host.old to) copied
+        (seen H.meaning cache.old host.old to) copied
         → length copied ≡ count → slice_get bodies index ≡ Some body
         → IsCopyOf (seen H.meaning cache.old host.old from) bodies
-            (seen H.meaning cache.new host.new to) (copied ++ body ∷ [])) }
+        (seen H.meaning cache.new host.new to) (copied ++ body ∷ [])) }
     ensures page { (name : PageNames) → result ≡ Err (OrderError.Damaged name)
         → (name.file ≡ from) ⊎ (name.file ≡ to) }
     ensures damaged { (name : PageNames) → result ≡ Err (OrderError.Damaged name) → IsTrue H.meaning.tells
         → (bodies copied : List Bodies) (body : Bodies)
         → HasFirst (seen H.meaning cache.old host.old from) bodies
         → IsCopyOf (seen H.meaning cache.old host.old from) bodies
-            (seen H.meaning cache.old host.old to) copied
+        (seen H.meaning cache.old host.old to) copied
         → length copied ≡ count → slice_get bodies index ≡ Some body → ⊥ }
     ensures ran { RanCached H.meaning OrderError.Fault (to ∷ []) cache.old host.old
         cache.new host.new result }

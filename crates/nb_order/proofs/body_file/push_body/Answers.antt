@@ -1,10 +1,16 @@
-use Rattle.std.proofs.Common.{◌≡◌, ◌/◌, Err, IsTrue, [], ◌∷◌, ap, sym, subst, ◌∙◌, rules}
+use Rattle.std.proofs.Common.{◌≡◌, ◌/◌, ◌%◌, Err, IsTrue, Result, [], ◌∷◌, ap, sym, subst, ◌∙◌, arith, rules}
 use Rattle.nb_host.specs.declared.page_name.PageName.{PageName}
 use Rattle.nb_host.specs.Image.{overwritten}
-use Rattle.nb_host.specs.Page.{page_start}
+use Rattle.std.specs.Prelude.{◌≢◌}
+use Rattle.nb_host.specs.Page.{page_start, HasPage}
+use Rattle.nb_cache.specs.declared.cache_error.CacheError.{CacheError}
+use Rattle.nb_cache.specs.declared.cache_error.CacheError.TheVariants as cache
 use Rattle.nb_cache.specs.View.{seen}
-use Rattle.nb_cache.proofs.Callers.{no_file, may_write, writes_both, seen_stays, seen_after}
+use Rattle.nb_cache.proofs.Callers.{no_file, may_write, ran_as, ran_then, seen_stays, seen_after}
 use Rattle.nb_record.specs.declared.sizes.TheConstants.{BODIES_PER_PAGE}
+use Rattle.nb_order.specs.Errors.{of_cache}
+use Rattle.nb_order.specs.declared.order_error.OrderError.TheVariants.{Fault}
+use Rattle.nb_order.proofs.Refusing.{fault_handed_on, only_memory}
 use Rattle.nb_order.proofs.Pushing.{IsOpened, IsAdded, last_page, next_page, body_pushed}
 use Rattle.nb_order.proofs.body_file.push_body.Goals as goal
 
@@ -43,3 +49,33 @@ returns-clause-pushed g c = record {
       body_pushed (before c.args.file) page (after c.args.file) bodies c.args.body.now c.args.kick.now c.args.index holds long next
       (written ∙ ap (overwritten at page) (c.open_page.ensures.ran.writes.view tells c.args.file (no_file c.args.file)));
 }
+
+pub returns-in_err-open_page-clause-ran : goal.returns-in_err-open_page-clause-ran
+returns-in_err-open_page-clause-ran g c = record {
+  writes = may_write (c.args.file ∷ []) c.open_page.ensures.ran.writes;
+  rose = λ faulted.
+      let error : c.open_page.result ≡ Err Fault = search rules in
+      c.open_page.ensures.ran.rose error;
+  spared = search rules;
+}
+
+pub returns-in_err-put-clause-ran : goal.returns-in_err-put-clause-ran
+returns-in_err-put-clause-ran g c =
+    let put = rw (ap (λ (n : PageName). n.file) c.page_name-name.ensures.value) at c.put.ensures.ran in
+    let handed_on : c.from_residual-in_err-put.result ≡ Err (of_cache c.in_err-put.field-0.0) = search rules in
+    ran_as (ran_then c.open_page.ensures.ran (search rules) put)
+    (λ faulted. c.in_err-put.was ∙ ap Err (fault_handed_on c.in_err-put.field-0.0 (cc)))
+    (λ ok. search rules)
+
+pub returns-clause-ran : goal.returns-clause-ran
+returns-clause-ran g c =
+    let put = rw (ap (λ (n : PageName). n.file) c.page_name-name.ensures.value) at c.put.ensures.ran in
+    ran_as (ran_then c.open_page.ensures.ran (search rules) put) (λ faulted. absurd (cc)) (λ ok. search rules)
+
+pub returns-in_err-put-clause-stays : goal.returns-in_err-put-clause-stays
+returns-in_err-put-clause-stays g c =
+    let handed_on : c.from_residual-in_err-put.result ≡ Err (of_cache c.in_err-put.field-0.0) = search rules in
+    rw handed_on
+    (λ no_fault other.
+    let memory = only_memory c.in_err-put.field-0.0 c.put.result c.in_err-put.was (λ fault. no_fault (ap Err fault)) c.put.ensures.host_refusal in
+    seen_after (seen_stays other (no_file other) c.open_page.ensures.ran.writes) (c.put.ensures.no_memory memory other))

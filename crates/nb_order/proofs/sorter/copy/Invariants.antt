@@ -19,5 +19,5 @@ invariant-loop-index g l = record {
       → HasFirst (seen g.H.Host.meaning l.fn.cache l.fn.host l.from) bodies
       → AreNumbersOf bodies (values l.places) list
       → IsCopied (seen g.H.Host.meaning l.fn.cache l.fn.host l.from) bodies list l.count l.index-iterator
-          (seen g.H.Host.meaning l.cache l.host l.to);
+      (seen g.H.Host.meaning l.cache l.host l.to);
 }

@@ -50,3 +50,12 @@ returns-clause-page g c = λ name is. inr (ap (λ (n : PageName). n.file) (c.pus
 
 pub returns-clause-ran : goal.returns-clause-ran
 returns-clause-ran g c = ran_then c.kicked_at.ensures.ran (search rules) c.push_body.ensures.ran
+
+pub returns-in_err-found-clause-ran : goal.returns-in_err-found-clause-ran
+returns-in_err-found-clause-ran g c = record {
+  writes = may_write (c.args.to ∷ []) c.kicked_at.ensures.ran.writes;
+  rose = λ faulted.
+      let error : c.kicked_at.result ≡ Err Fault = search rules in
+      c.kicked_at.ensures.ran.rose error;
+  spared = search rules;
+}

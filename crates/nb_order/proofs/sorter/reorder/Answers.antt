@@ -1,14 +1,17 @@
 use Rattle.std.proofs.Common.{◌≡◌, ℕ, IsTrue, List, [], ◌∷◌, ◌++◌, Err, length, inl, inr, sym, ap, subst, ◌∙◌, arith, rules}
+use Rattle.std.specs.Map.{values_of}
 use Rattle.std.proofs.lemmas.Result.{on_ok_weaker}
 use Rattle.nb_model.specs.declared.body.V3.{V3}
 use Rattle.nb_model.specs.declared.body.Body.{Body}
 use Rattle.nb_cache.specs.View.{seen}
-use Rattle.nb_cache.proofs.Callers.{no_file, other_file, may_write, writes_both, writes_again, ran_then, ran_again}
+use Rattle.nb_cache.proofs.Callers.{no_file, other_file, may_write, ran_as, ran_then, ran_again}
 use Rattle.nb_record.specs.Order.{sorted_by, HoldsBodies}
 use Rattle.nb_order.specs.Files.{IsSortedCopy}
 use Rattle.nb_order.specs.Places.{HasFirst, AreReadTo, AreNumbersOf, IsCopyOf}
 use Rattle.nb_order.specs.declared.order_error.OrderError.TheVariants.{Fault, Damaged}
 use Rattle.nb_order.proofs.Reading.{held_first, first_of, length-first_of, has_first, never_unsortable}
+use Rattle.nb_order.specs.Errors.{of_cache}
+use Rattle.nb_order.proofs.Refusing.{fault_handed_on, short_handed_on}
 use Rattle.nb_order.proofs.Sorting.{read_numbers}
 use Rattle.nb_order.proofs.sorter.reorder.Goals as goal
 
@@ -72,3 +75,19 @@ returns-in_err-places-clause-damaged g c = λ name is.
 pub returns-clause-ran : goal.returns-clause-ran
 returns-clause-ran g c =
     ran_again (ran_then c.places_of.ensures.ran (search rules) c.empty.ensures.ran) (search rules) c.copy.ensures.ran
+
+pub returns-in_err-places-clause-ran : goal.returns-in_err-places-clause-ran
+returns-in_err-places-clause-ran g c = record {
+  writes = may_write (c.args.to ∷ []) c.places_of.ensures.ran.writes;
+  rose = λ faulted.
+      let error : c.places_of.result ≡ Err Fault = search rules in
+      c.places_of.ensures.ran.rose error;
+  spared = search rules;
+}
+
+pub returns-in_err-empty-clause-ran : goal.returns-in_err-empty-clause-ran
+returns-in_err-empty-clause-ran g c =
+    let handed_on : c.from_residual-in_err-empty.result ≡ Err (of_cache c.in_err-empty.field-0.0) = search rules in
+    ran_as (ran_then c.places_of.ensures.ran (search rules) c.empty.ensures.ran)
+    (λ faulted. c.in_err-empty.was ∙ ap Err (fault_handed_on c.in_err-empty.field-0.0 (cc)))
+    (λ ok. search rules)
