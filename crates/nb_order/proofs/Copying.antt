@@ -1,8 +1,7 @@
 -- A file of bodies, as far as it is copied.
-use Rattle.std.proofs.Common.{◌≡◌, ℕ, ◌+◌, ◌<◌, List, [], ◌∷◌, ◌++◌, length, Some, inl, inr, refl, sym, ap, subst, ◌∙◌, arith, append_assoc, length-append}
+use Rattle.std.proofs.Common.{◌≡◌, ℕ, ◌+◌, ◌<◌, List, [], ◌∷◌, ◌++◌, length, Some, inl, inr, refl, sym, ap, subst, ◌∙◌, arith, append_assoc, append-nil, length-append}
 use Rattle.std.specs.Prelude.{slice_get}
-use Rattle.std.proofs.lemmas.Bool.{cases_lt}
-use Rattle.std.proofs.lemmas.Option.{same_Some, slice_get_within}
+use Rattle.std.proofs.lemmas.Option.{slice_get_within}
 use Rattle.nb_model.specs.declared.body.V3.{V3}
 use Rattle.nb_model.specs.declared.body.Body.{Body}
 use Rattle.nb_record.specs.declared.sizes.TheConstants.{BODY_SIZE}
@@ -10,8 +9,8 @@ use Rattle.nb_record.specs.Records.{kick_of}
 use Rattle.nb_record.specs.Writing.{IsZeroPaddedFile}
 use Rattle.nb_record.specs.Order.{record_of, HoldsBodies}
 use Rattle.nb_order.specs.Files.{IsPushed}
-use Rattle.nb_order.specs.Places.{AreNumbersOf, HasKicks}
-use Rattle.nb_order.proofs.Pushing.{pushed_before, pushed_here}
+use Rattle.nb_order.specs.Places.{AreNumbersOf, HasKicks, IsCopyOf}
+use Rattle.nb_order.proofs.Pushing.{kicks_pushed}
 
 -- an empty file holds no body
 pub holds_none : (file : List ℕ) → file ≡ [] → HoldsBodies file []
@@ -23,10 +22,6 @@ holds_none file is = subst (λ f. HoldsBodies f []) (sym is) (record {
   held = λ j below. absurd (omega arith);
 })
 
--- a list with its kicks, where the bodies have theirs in the other file
-abbrev pub KicksCome : List ℕ → List Body → List ℕ → List Body → Type 0
-KicksCome from bodies file copied = (kick : Body → V3) → HasKicks from kick bodies → HasKicks file kick copied
-
 -- The file holds the first bodies of the list, so many, with their kicks in the other file, and these are the numbers of
 -- the others.
 pub record IsCopied (from : List ℕ) (bodies list : List Body) (count : ℕ) (numbers : List ℕ) (file : List ℕ) : Type 0 where
@@ -34,9 +29,7 @@ pub record IsCopied (from : List ℕ) (bodies list : List Body) (count : ℕ) (n
   pub others : List Body
   pub all : list ≡ copied ++ others
   pub many : length copied ≡ count
-  pub holds : HoldsBodies file copied
-  pub kicks : KicksCome from bodies file copied
-  pub padded : IsZeroPaddedFile BODY_SIZE file
+  pub copy : IsCopyOf from bodies file copied
   pub numbered : AreNumbersOf bodies numbers others
 
 pub copied_none : (from : List ℕ) (bodies list : List Body) (numbers : List ℕ) (file : List ℕ) → file ≡ [] → AreNumbersOf bodies numbers list
@@ -46,9 +39,11 @@ copied_none from bodies list numbers file is numbered = record {
   others = list;
   all = refl;
   many = refl;
-  holds = holds_none file is;
-  kicks = λ kick has j b at. absurd (none_at j b at);
-  padded = subst (IsZeroPaddedFile BODY_SIZE) (sym is) (λ p has. absurd (omega arith));
+  copy = record {
+    holds = holds_none file is;
+    kicks = λ kick has j b at. absurd (none_at j b at);
+    padded = subst (IsZeroPaddedFile BODY_SIZE) (sym is) (λ p has. absurd (omega arith));
+  };
   numbered = numbered;
 } where
   none_at : (j : ℕ) (b : Body) → slice_get [] j ≡ Some b → ⊥
@@ -61,9 +56,7 @@ pub record IsNext (from : List ℕ) (bodies list : List Body) (count index : ℕ
   pub others : List Body
   pub all : list ≡ (copied ++ body ∷ []) ++ others
   pub many : length copied ≡ count
-  pub holds : HoldsBodies file copied
-  pub kicks : KicksCome from bodies file copied
-  pub padded : IsZeroPaddedFile BODY_SIZE file
+  pub copy : IsCopyOf from bodies file copied
   pub there : slice_get bodies index ≡ Some body
   pub numbered : AreNumbersOf bodies numbers others
 
@@ -80,37 +73,37 @@ copied_next from bodies list count index numbers rest file is so_far =
         others = bs;
         all = all ∙ sym (append_assoc so_far.copied (b ∷ []) bs);
         many = so_far.many;
-        holds = so_far.holds;
-        kicks = so_far.kicks;
-        padded = so_far.padded;
+        copy = so_far.copy;
         there = left.0;
         numbered = left.1;
       }
 
--- the kicks of one body more
-kicks_more : (from file after : List ℕ) (bodies copied : List Body) (body : Body) (kick : V3) (index : ℕ) → KicksCome from bodies file copied
+-- a copy with one body more
+pub copy_more : (from file after : List ℕ) (bodies copied : List Body) (body : Body) (kick : V3) (index : ℕ) → IsCopyOf from bodies file copied
     → slice_get bodies index ≡ Some body → kick ≡ kick_of (record_of from index) → IsPushed copied body kick file after
-    → KicksCome from bodies after (copied ++ body ∷ [])
-kicks_more from file after bodies copied body kick index come there is pushed kicks has j b at =
-    elim (cases_lt j (length copied)) [
-      | inl before ↦ ap kick_of (pushed.records j before) ∙ come kicks has j b (sym (pushed_before copied body j before) ∙ at)
-      | inr behind ↦
-          let within = slice_get_within (copied ++ body ∷ []) j b at in
-          let last : length copied ≡ j = omega (arith, length-append copied (body ∷ [])) in
-          let same : body ≡ b = same_Some body b (sym (pushed_here copied body) ∙ ap (slice_get (copied ++ body ∷ [])) last ∙ at) in
-          ap (λ i. kick_of (record_of after i)) (sym last) ∙ pushed.last ∙ is ∙ has index body there ∙ ap kicks same
-    ]
+    → IsCopyOf from bodies after (copied ++ body ∷ [])
+copy_more from file after bodies copied body kick index copy there is pushed = record {
+  holds = pushed.holds;
+  kicks = λ kicks has. kicks_pushed file after copied body kick kicks (copy.kicks kicks has) (is ∙ has index body there) pushed;
+  padded = pushed.padded copy.padded;
+}
 
-pub copied_more : (from : List ℕ) (bodies list : List Body) (count index : ℕ) (rest : List ℕ) (file after : List ℕ) (kick : V3)
-    → (next : IsNext from bodies list count index rest file) → kick ≡ kick_of (record_of from index)
-    → IsPushed next.copied next.body kick file after → IsCopied from bodies list (count + 1) rest after
-copied_more from bodies list count index rest file after kick next is pushed = record {
+pub copied_more : (from : List ℕ) (bodies list : List Body) (count index : ℕ) (rest : List ℕ) (file after : List ℕ)
+    → (next : IsNext from bodies list count index rest file) → IsCopyOf from bodies after (next.copied ++ next.body ∷ [])
+    → IsCopied from bodies list (count + 1) rest after
+copied_more from bodies list count index rest file after next copy = record {
   copied = next.copied ++ next.body ∷ [];
   others = next.others;
   all = next.all;
   many = length-append next.copied (next.body ∷ []) ∙ ap (λ n. n + 1) next.many;
-  holds = pushed.holds;
-  kicks = kicks_more from file after bodies next.copied next.body kick index next.kicks next.there is pushed;
-  padded = pushed.padded next.padded;
+  copy = copy;
   numbered = next.numbered;
 }
+
+-- where no number is left, the whole list is copied
+pub copied_all : (from : List ℕ) (bodies list : List Body) (count : ℕ) (file : List ℕ) → IsCopied from bodies list count [] file
+    → IsCopyOf from bodies file list
+copied_all from bodies list count file is = whole is.others is.all is.numbered where
+  whole : (others : List Body) → list ≡ is.copied ++ others → AreNumbersOf bodies [] others → IsCopyOf from bodies file list
+  whole [] all left = subst (IsCopyOf from bodies file) (sym (all ∙ append-nil is.copied)) is.copy
+  whole (b ∷ bs) all left = absurd left

@@ -1,5 +1,6 @@
-pub mod Calls
-pub mod Copying
-pub mod Pushing
-pub mod Reading
-pub mod Sorting
+pub mod Callers
+mod Copying
+mod Pushing
+mod Reading
+mod Refusing
+mod Sorting

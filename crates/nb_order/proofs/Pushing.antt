@@ -3,14 +3,13 @@ use Rattle.std.proofs.Common.{◌≡◌, ◌≢◌, ℕ, ◌+◌, ◌*◌, ◌/�
 use Rattle.std.specs.Prelude.{slice_get}
 use Rattle.std.proofs.lemmas.Bool.{cases_lt, cases_eq}
 use Rattle.std.proofs.lemmas.List.{length_push, length-append, length-take, length-drop, get_or_append_left, get_or_push}
-use Rattle.std.proofs.lemmas.Option.{slice_get-get_or}
+use Rattle.std.proofs.lemmas.Option.{slice_get-get_or, slice_get_within, same_Some}
 use Rattle.nb_model.specs.declared.body.V3.{V3}
 use Rattle.nb_model.specs.declared.body.Body.{Body}
 use Rattle.nb_host.specs.declared.page_name.TheConstants.{PAGE_SIZE}
 use Rattle.nb_host.specs.Page.{page_start, page_of, HasPage}
-use Rattle.nb_host.specs.Image.{IsTorn, overwritten}
-use Rattle.nb_host.proofs.Steps.{overwritten_is_torn, overwritten-within}
-use Rattle.nb_cache.proofs.Fitting.{page_stays, page_written}
+use Rattle.nb_host.specs.Image.{IsTorn, overwritten, readable}
+use Rattle.nb_host.proofs.Callers.{overwritten_is_torn, overwritten-within, readable-overwritten, readable-torn_after}
 use Rattle.nb_record.specs.Order.{pages_for, count_on, record_of, HoldsBodies}
 use Rattle.nb_record.specs.declared.sizes.TheConstants.{BODIES_PER_PAGE, BODY_SIZE}
 use Rattle.nb_record.specs.Pages.{page_number, page_count, IsBodyPage}
@@ -18,6 +17,7 @@ use Rattle.nb_record.specs.Records.{body_record, body_of, kick_of, bodies_of, Is
 use Rattle.nb_record.specs.Writing.{IsZeroPadded, IsZeroPaddedFile}
 use Rattle.nb_record.proofs.Callers.{length-bodies_of, body_at}
 use Rattle.nb_order.specs.Files.{IsPushed}
+use Rattle.nb_order.specs.Places.{HasKicks}
 
 -- The page of body j with this body, and this kick, as its last one. The page's other records are those of the file.
 pub record IsNextPage (file : List ℕ) (j : ℕ) (page : List ℕ) (body : Body) (kick : V3) : Type 0 where
@@ -39,10 +39,10 @@ module _ (p : ℕ) (page file : List ℕ) (size : length page ≡ PAGE_SIZE) (fr
   page_below : (q : ℕ) → q < p → page_of grown q ≡ page_of file q
   page_below q below =
       let torn = subst (λ n. IsTorn (page_start p) n file grown) size (overwritten_is_torn (page_start p) page file) in
-      page_stays p q file grown torn (omega arith) (λ same. omega arith)
+      readable-torn_after (page_start q) PAGE_SIZE torn (omega arith) (omega arith)
 
   page_here : page_of grown p ≡ page
-  page_here = page_written p page file size
+  page_here = ap (λ n. readable (page_start p) n grown) (sym size) ∙ readable-overwritten (page_start p) page file
 
   length-grown : length file ≤ page_start (p + 1) → length grown ≡ page_start (p + 1)
   length-grown to =
@@ -244,3 +244,16 @@ next_page file old new j body kick was is = record {
     | inr later ↦ subst (IsZeroPadded BODY_SIZE) (sym (was.read later)) (padded (j / BODIES_PER_PAGE) (was.whole later))
   ]);
 }
+
+-- the kicks of one body more
+pub kicks_pushed : (file after : List ℕ) (bodies : List Body) (body : Body) (own : V3) (kick : Body → V3) → HasKicks file kick bodies → own ≡ kick body
+    → IsPushed bodies body own file after → HasKicks after kick (bodies ++ body ∷ [])
+kicks_pushed file after bodies body own kick has is pushed j b at =
+    elim (cases_lt j (length bodies)) [
+      | inl before ↦ ap kick_of (pushed.records j before) ∙ has j b (sym (pushed_before bodies body j before) ∙ at)
+      | inr behind ↦
+          let within = slice_get_within (bodies ++ body ∷ []) j b at in
+          let last : length bodies ≡ j = omega (arith, length_push bodies body) in
+          let same : body ≡ b = same_Some body b (sym (pushed_here bodies body) ∙ ap (slice_get (bodies ++ body ∷ [])) last ∙ at) in
+          ap (λ i. kick_of (record_of after i)) (sym last) ∙ pushed.last ∙ is ∙ ap kick same
+    ]

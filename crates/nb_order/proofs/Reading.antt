@@ -1,20 +1,40 @@
 -- A body of a file, and the page on which it stands.
-use Rattle.std.proofs.Common.{◌≡◌, ℕ, zero, suc, ◌+◌, ◌*◌, ◌/◌, ◌%◌, ◌<◌, ◌≤◌, List, [], ◌∷◌, ◌++◌, Some, length, inl, inr, refl, sym, ap, subst, ◌∙◌, arith}
-use Rattle.std.specs.Prelude.{slice_get}
+use Rattle.std.proofs.Common.{◌≡◌, ℕ, zero, suc, ◌+◌, ◌*◌, ◌/◌, ◌%◌, ◌<◌, ◌≤◌, IsTrue, Bool, true, false, cond, not, eqb, leb, Ok, Err, List, [], ◌∷◌, ◌++◌, Some, length, inl, inr, refl, sym, ap, subst, ◌∙◌, arith}
+use Rattle.std.specs.Prelude.{slice_get, ◌≢◌}
 use Rattle.std.proofs.lemmas.Bool.{cases_lt}
 use Rattle.std.proofs.lemmas.List.{length_push}
+use Rattle.std.proofs.lemmas.Option.{get_or_from_slice_get}
+use Rattle.nb_host.specs.Meaning.{HostModel}
 use Rattle.nb_host.specs.declared.page_name.PageName.{PageName}
+use Rattle.nb_cache.specs.View.{CacheValue, seen, IsWhole}
 use Rattle.nb_host.specs.Page.{page_start, page_of, HasPage}
 use Rattle.nb_model.specs.declared.body.V3.{V3}
 use Rattle.nb_model.specs.declared.body.Body.{Body}
 use Rattle.nb_record.specs.declared.sizes.TheConstants.{BODIES_PER_PAGE}
-use Rattle.nb_record.specs.Order.{pages_for, count_on, record_of, HoldsBodies}
-use Rattle.nb_record.specs.Pages.{page_count, IsBodyPage}
+use Rattle.nb_record.specs.Order.{pages_for, count_on, record_of, HoldsBodies, HoldsKickedBodies, HaveDifferentIds}
+use Rattle.nb_record.specs.Fields.{word}
+use Rattle.nb_record.specs.declared.header.PageError.{PageError}
+use Rattle.nb_record.specs.declared.header.PageError.TheVariants.{Number, Count, Next}
+use Rattle.nb_record.specs.Pages.{page_number, page_count, page_next, read_body_page, IsBodyPage}
 use Rattle.nb_record.specs.Records.{body_record, body_of, kick_of, IsBodyRecord}
 use Rattle.nb_record.proofs.Callers.{page_within, place_within}
-use Rattle.nb_order.specs.Files.{page_of_body, HasBody}
+use Rattle.nb_order.specs.Files.{page_of_body, HasBody, HasRoomFor, IsBodyAt, IsUnsortable}
 use Rattle.nb_order.specs.Places.{HasFirst}
+use Rattle.nb_order.specs.Refusals.{IsNoBody, HasNoRoom}
 use Rattle.nb_order.proofs.Pushing.{pushed_before, pushed_here}
+
+tests_same : (number count next zeros : Bool) (bytes bodies : List ℕ)
+    → cond (not number) (Err Number) (cond (not count) (Err Count) (cond (not next) (Err Next) (cond (not zeros) (Err Next) (Ok bytes)))) ≡ Ok bodies → bodies ≡ bytes
+tests_same true true true true bytes bodies is = cc
+tests_same true true true false bytes bodies is = absurd (cc)
+tests_same true true false zeros bytes bodies is = absurd (cc)
+tests_same true false next zeros bytes bodies is = absurd (cc)
+tests_same false count next zeros bytes bodies is = absurd (cc)
+
+-- a page that a check answers is the bytes
+pub checked_same : (page : ℕ) (bytes bodies : List ℕ) → read_body_page page bytes ≡ Ok bodies → bodies ≡ bytes
+checked_same page bytes bodies is =
+    tests_same (eqb (page_number bytes) page) (leb (page_count bytes) BODIES_PER_PAGE) (eqb (page_next bytes) 0) (eqb (word 24 bytes) 0) bytes bodies is
 
 -- what was read of the record of body j on its page
 pub record IsRead (bytes : List ℕ) (page j : ℕ) (body : Body) (kick : V3) : Type 0 where
@@ -28,18 +48,19 @@ pub record IsRead (bytes : List ℕ) (page j : ℕ) (body : Body) (kick : V3) : 
 pub body_read : (view : ℕ → List ℕ) (bytes : List ℕ) (name : PageName) (file j : ℕ) (body : Body) (kick : V3)
     → name ≡ page_of_body file j → bytes ≡ page_of (view name.file) name.page
     → HasPage (view name.file) name.page → IsRead bytes name.page j body kick
-    → HasBody (view file) j × (body ≡ body_of (record_of (view file) j)) × (kick ≡ kick_of (record_of (view file) j))
+    → IsBodyAt (view file) j body kick
 body_read view bytes name file j body kick at is whole read =
-    let here : bytes ≡ page_of (view file) (j / BODIES_PER_PAGE) = is ∙ ap (λ (n : PageName). page_of (view n.file) n.page) at in (
-      record {
+    let here : bytes ≡ page_of (view file) (j / BODIES_PER_PAGE) = is ∙ ap (λ (n : PageName). page_of (view n.file) n.page) at in
+    record {
+      has = record {
         whole = subst (λ (n : PageName). HasPage (view n.file) n.page) at whole;
         form = subst (IsBodyPage (j / BODIES_PER_PAGE)) here (subst (λ (n : PageName). IsBodyPage n.page bytes) at read.form);
         within = subst (λ l. j % BODIES_PER_PAGE < page_count l) here read.within;
         body = subst (λ l. IsBodyRecord (body_record (j % BODIES_PER_PAGE) l)) here read.valid;
-      },
-      read.body_is ∙ ap (λ l. body_of (body_record (j % BODIES_PER_PAGE) l)) here,
-      read.kick_is ∙ ap (λ l. kick_of (body_record (j % BODIES_PER_PAGE) l)) here,
-    )
+      };
+      body_is = read.body_is ∙ ap (λ l. body_of (body_record (j % BODIES_PER_PAGE) l)) here;
+      kick_is = read.kick_is ∙ ap (λ l. kick_of (body_record (j % BODIES_PER_PAGE) l)) here;
+    }
 
 -- a body whose record was not read from its page isn't there
 pub body_missed : (view : ℕ → List ℕ) (bytes : List ℕ) (name : PageName) (file j : ℕ) → name ≡ page_of_body file j
@@ -84,6 +105,20 @@ held_first file bodies holds = record {
   held = holds.held;
 }
 
+count_partial : (n : ℕ) → n % BODIES_PER_PAGE ≢ 0 → count_on n (n / BODIES_PER_PAGE) ≡ n % BODIES_PER_PAGE
+count_partial n some = grind arith
+
+page_partial : (n : ℕ) → n % BODIES_PER_PAGE ≢ 0 → n / BODIES_PER_PAGE < pages_for n
+page_partial n some = omega arith
+
+-- a file that holds so many bodies has room for one more behind them
+pub held_room : (file : List ℕ) (bodies : List Body) (j : ℕ) → HoldsBodies file bodies → length bodies ≡ j → HasRoomFor file j
+held_room file bodies j holds long = subst (HasRoomFor file) long (record {
+  whole = λ some. page_is_whole (length bodies / BODIES_PER_PAGE) (pages_for (length bodies)) (length file) holds.whole (page_partial (length bodies) some);
+  form = λ some. holds.pages (length bodies / BODIES_PER_PAGE) (page_partial (length bodies) some);
+  count = λ some. holds.counts (length bodies / BODIES_PER_PAGE) (page_partial (length bodies) some) ∙ count_partial (length bodies) some;
+})
+
 -- ---- the first bodies of any file
 
 pub first_of : List ℕ → ℕ → List Body
@@ -113,3 +148,50 @@ pub has_first : (file : List ℕ) (n : ℕ) → ((j : ℕ) → j < n → HasBody
 has_first file n each =
     let long = length-first_of file n in
     record { each = λ j below. each j (omega arith); held = λ j below. first_of-at file n j (omega arith) }
+
+-- ---- why a file can't be sorted
+
+-- the bodies that a file holds can't fail it where their ids differ
+pub never_unsortable : (rank : Body → ℕ) (number count : ℕ) (file : List ℕ) (name : PageName) (bodies : List Body)
+    → IsUnsortable rank number count file name → HoldsBodies file bodies → length bodies ≡ count → HaveDifferentIds bodies → ⊥
+never_unsortable rank number count file name bodies is holds long different =
+    let first = held_first file bodies holds in
+    let within : is.index < length bodies = omega (arith, is.below) in
+    elim is.cause [
+      | inl none ↦ none (first.each is.index within)
+      | inr double ↦
+          let body = body_of (record_of file is.index) in
+          let earlier : double.earlier < length bodies = omega (arith, double.before) in
+          different double.earlier is.index body double.before within
+          (ap (λ (b : Body). b.id) (get_or_from_slice_get bodies double.earlier (body_of (record_of file double.earlier)) body (first.held double.earlier earlier))
+          ∙ double.same_id
+          ∙ ap (λ (b : Body). b.id) (sym (get_or_from_slice_get bodies is.index body body (first.held is.index within))))
+    ]
+
+-- ---- what a call says
+
+-- where a file holds a list, a body of it was read
+pub listed_body : (file : List ℕ) (bodies : List Body) (j : ℕ) (body : Body) (kick : V3) → IsBodyAt file j body kick → HoldsBodies file bodies
+    → slice_get bodies j ≡ Some body
+listed_body file bodies j body kick is holds = holds.held j (is_listed file bodies j holds is.has) ∙ ap Some (sym is.body_is)
+
+pub listed_kick : (file : List ℕ) (kick_for : Body → V3) (bodies : List Body) (j : ℕ) (b body : Body) (kick : V3) → IsBodyAt file j body kick
+    → HoldsKickedBodies file kick_for bodies → slice_get bodies j ≡ Some b → kick ≡ kick_for b
+listed_kick file kick_for bodies j b body kick is holds at = is.kick_is ∙ holds.kicks j b at
+
+-- a page that isn't whole has no body
+pub no_body_short : {H : Type 0} {m : HostModel H} {cache : CacheValue} {host : H} {file index : ℕ} {name : PageName} (other : PageName)
+    → other ≡ page_of_body file index → name ≡ other → (IsTrue m.tells → ¬ IsWhole cache (m.contents host) other)
+    → IsNoBody m cache host file index name
+no_body_short {m = m} {cache = cache} {host = host} other at same short = record {
+  page = same ∙ at;
+  cause = λ tells has. short tells (subst (IsWhole cache (m.contents host)) (sym at) has.whole);
+}
+
+pub no_room : {H : Type 0} {m : HostModel H} {cache : CacheValue} {host : H} {file index : ℕ} {name : PageName} → name ≡ page_of_body file index
+    → (IsTrue m.tells → HasRoomFor (seen m cache host file) index → ⊥) → HasNoRoom m cache host file index name
+no_room {m = m} {cache = cache} {host = host} {file = file} {index = index} page cause = record {
+  page = page;
+  cause = cause;
+  listed = λ tells bodies holds long. cause tells (held_room (seen m cache host file) bodies index holds long);
+}

@@ -1,5 +1,5 @@
 -- A map of bodies by rank and id has them in order.
-use Rattle.std.proofs.Common.{◌≡◌, ℕ, ◌+◌, ◌<◌, ◌≤◌, Bool, true, false, cond, ◌&&◌, ◌||◌, eqb, ltb, List, [], ◌∷◌, ◌++◌, length, take, Some, None, refl, sym, ap, subst, ◌∙◌, arith}
+use Rattle.std.proofs.Common.{◌≡◌, ℕ, ◌+◌, ◌<◌, ◌≤◌, Bool, true, false, cond, ◌&&◌, ◌||◌, eqb, ltb, List, [], ◌∷◌, ◌++◌, length, take, Some, None, inl, inr, refl, sym, ap, subst, ◌∙◌, arith}
 use Rattle.std.specs.Prelude.{All, IsPermutation, slice_get}
 use Rattle.std.specs.List.{AllZip}
 use Rattle.std.specs.List.Sorted.{IsStrictlySortedBy}
@@ -8,16 +8,20 @@ use Rattle.std.specs.declared.cmp.Ordering.TheVariants.{Less, Equal, Greater}
 use Rattle.std.specs.Ordering.{ordering_then, nat_cmp, match_ordering, is_eq}
 use Rattle.std.specs.BTreeMap.{insert_entry, is_at}
 use Rattle.std.specs.Map.{keys_of, values_of, lookup}
-use Rattle.std.proofs.lemmas.Bool.{eqb-true}
+use Rattle.std.proofs.lemmas.Bool.{eqb-true, cases_lt}
 use Rattle.std.proofs.lemmas.List.{take_all, take_more}
 use Rattle.std.proofs.lemmas.List.Elements.{All-tail}
 use Rattle.std.proofs.lemmas.List.Sorted.{IsPermutation-refl, IsPermutation-push_more}
 use Rattle.std.proofs.lemmas.Map.Keys.{sorted_head, sorted_tail}
-use Rattle.std.proofs.lemmas.Option.{get_or_from_slice_get, slice_get_within}
+use Rattle.std.proofs.lemmas.Option.{get_or_from_slice_get, slice_get_within, same_Some}
 use Rattle.nb_model.specs.declared.body.Body.{Body}
 use Rattle.nb_record.specs.Order.{precedes, insert_by, sorted_by, HaveDifferentIds, IsSortedByRank}
 use Rattle.nb_record.proofs.Callers.{permuted, only}
-use Rattle.nb_order.specs.Places.{IsEntryOf, AreFirstPlaces, AreNumbersOf}
+use Rattle.nb_record.specs.Records.{body_of}
+use Rattle.nb_record.specs.Order.{record_of}
+use Rattle.nb_order.specs.Files.{HasBody, IsDouble}
+use Rattle.nb_order.specs.Places.{IsEntryOf, AreFirstPlaces, AreNumbersOf, AreReadTo, HasFirst}
+use Rattle.nb_order.proofs.Reading.{first_of, length-first_of, first_of-at, has_first}
 
 -- ---- the order of two keys
 
@@ -163,13 +167,6 @@ module _ (rank : Body → ℕ) where
         double es (sorted_by rank (take n bodies)) v all numbers
         (sym (subst (λ k. Some v ≡ lookup (is_at (key_order k)) es) is_key found))
 
-    -- where the ids differ there is none
-    pub never_doubled : IsDoubled → HaveDifferentIds bodies → ⊥
-    never_doubled one different =
-        different one.place n b one.below (slice_get_within bodies n b at)
-        (ap (λ (c : Body). c.id) (get_or_from_slice_get bodies one.place one.other b one.there) ∙ one.same
-        ∙ ap (λ (c : Body). c.id) (sym (get_or_from_slice_get bodies n b b at)))
-
   -- ---- the order of the entries is that of the bodies
 
   ordered : (bodies : List Body) (es : List ((ℕ × ℕ) × ℕ)) (cs : List Body) → AllZip (IsEntryOf rank bodies) es cs
@@ -234,3 +231,58 @@ module _ (rank : Body → ℕ) where
   places_all bodies n es within all =
       numbers_of bodies es (sorted_by rank bodies)
       (subst (λ l. AllZip (IsEntryOf rank bodies) es (sorted_by rank l)) (take_all n bodies within) all)
+
+-- ---- places read from a file
+
+-- no place yet
+pub read_none : (rank : Body → ℕ) (file : List ℕ) (es : List ((ℕ × ℕ) × ℕ)) → es ≡ [] → AreReadTo rank file 0 es
+read_none rank file es is = record {
+  has = λ j below. absurd (omega arith);
+  places = λ bodies first within. places_none rank bodies es is;
+}
+
+-- the place of one body more
+pub read_more : (rank : Body → ℕ) (file : List ℕ) (b : Body) (n : ℕ) (es fs : List ((ℕ × ℕ) × ℕ)) (key : ℕ × ℕ)
+    → HasBody file n → b ≡ body_of (record_of file n) → key ≡ (rank b, b.id) → AreReadTo rank file n es
+    → None ≡ lookup (is_at (key_order key)) es → fs ≡ insert_entry key_order es key n
+    → IsStrictlySortedBy key_order (keys_of fs) → AreReadTo rank file (n + 1) fs
+read_more rank file b n es fs key here is is_key all none added rising = record {
+  has = λ j below. elim (cases_lt j n) [
+    | inl before ↦ all.has j before
+    | inr behind ↦ let same : n ≡ j = omega arith in subst (HasBody file) same here
+  ];
+  places = λ bodies first within.
+      let inside : n < length bodies = omega arith in
+      places_more rank bodies b n es fs key (first.held n inside ∙ ap Some (sym is)) is_key
+      (all.places bodies first (omega arith)) none added rising;
+}
+
+-- a body whose rank and id stand among the places
+pub read_double : (rank : Body → ℕ) (file : List ℕ) (b : Body) (n : ℕ) (es : List ((ℕ × ℕ) × ℕ)) (key : ℕ × ℕ) (v : ℕ)
+    → HasBody file n → b ≡ body_of (record_of file n) → key ≡ (rank b, b.id) → AreReadTo rank file n es
+    → All (λ number. number < n) (values_of es) → Some v ≡ lookup (is_at (key_order key)) es → IsDouble rank file n
+read_double rank file b n es key v here is is_key all numbers found =
+    let each : (j : ℕ) → j < n + 1 → HasBody file j = λ j below. elim (cases_lt j n) [
+      | inl before ↦ all.has j before
+      | inr behind ↦ let same : n ≡ j = omega arith in subst (HasBody file) same here
+    ] in
+    let bodies = first_of file (n + 1) in
+    let first = has_first file (n + 1) each in
+    let long = length-first_of file (n + 1) in
+    let at : slice_get bodies n ≡ Some b = first_of-at file (n + 1) n (omega arith) ∙ ap Some (sym is) in
+    let one = doubled rank bodies b n at es key v is_key (all.places bodies first (omega arith)) numbers found in
+    let below = one.below in
+    let same : one.other ≡ body_of (record_of file one.place) =
+    same_Some one.other (body_of (record_of file one.place)) (sym one.there ∙ first_of-at file (n + 1) one.place (omega arith)) in
+    record {
+      earlier = one.place;
+      before = one.below;
+      same_rank = ap rank (sym same) ∙ one.ranks ∙ ap rank is;
+      same_id = ap (λ (c : Body). c.id) (sym same) ∙ one.same ∙ ap (λ (c : Body). c.id) is;
+    }
+
+-- the numbers of a file's first bodies, in order
+pub read_numbers : (rank : Body → ℕ) (file : List ℕ) (n : ℕ) (es : List ((ℕ × ℕ) × ℕ)) (bodies : List Body)
+    → AreReadTo rank file n es → HasFirst file bodies → length bodies ≡ n → AreNumbersOf bodies (values_of es) (sorted_by rank bodies)
+read_numbers rank file n es bodies all first long =
+    places_all rank bodies n es (omega arith) (all.places bodies first (omega arith))

@@ -22,6 +22,12 @@ pub record HasBody (file : List ℕ) (j : ℕ) : Type 0 where
   pub within : j % BODIES_PER_PAGE < page_count (page_of file (j / BODIES_PER_PAGE))
   pub body : IsBodyRecord (record_of file j)
 
+-- this is body j of the file, with its kick
+pub record IsBodyAt (file : List ℕ) (j : ℕ) (body : Body) (kick : V3) : Type 0 where
+  pub has : HasBody file j
+  pub body_is : body ≡ body_of (record_of file j)
+  pub kick_is : kick ≡ kick_of (record_of file j)
+
 -- A body can be added as number j: where it isn't the first of its page, that page is whole and its header of the form,
 -- and it has as many records as come before.
 pub record HasRoomFor (file : List ℕ) (j : ℕ) : Type 0 where

@@ -1,3 +1,4 @@
 pub mod Errors
 pub mod Files
 pub mod Places
+pub mod Refusals

@@ -1,29 +1,40 @@
 //! Bodies in a file of pages, through the cache.
 
-ghost use Rattle.std.specs.Prelude.{◌≡◌, ◌≢◌, ◌↔◌, ℕ, ◌/◌, ◌%◌, ◌^◌, ◌<◌, ◌≤◌};
-ghost use Rattle.std.specs.Prelude.{List, [], ◌∷◌, ◌++◌, Contains, length, slice_get};
+ghost use Rattle.std.specs.Prelude.{◌≡◌, ◌≢◌, ◌↔◌, ℕ, ◌/◌, ◌%◌, ◌<◌, ◌≤◌, List, [], ◌∷◌, Contains, length, slice_get};
 ghost use Rattle.std.specs.Prelude.{IsTrue, IfSome, IfNone, IfOk, OnOk, OnErr, Err, Some};
+ghost use Rattle.nb_host.specs.Page.{page_of};
 ghost use Rattle.nb_host.specs.declared.page_name.PageName.{PageName as PageNames};
+ghost use Rattle.nb_model.specs.declared.body.V3.{V3 as Vectors};
 ghost use Rattle.nb_model.specs.declared.body.Body.{Body as Bodies};
-ghost use Rattle.nb_model.specs.Valid.{IsValidBody};
-ghost use Rattle.nb_cache.specs.InStep.{IsCacheable, IsInStep};
-ghost use Rattle.nb_cache.specs.View.{names_of, view_of, IsWhole};
-ghost use Rattle.nb_cache.specs.Writes.{Writes};
-ghost use Rattle.nb_record.specs.Order.{page_of, record_of, HoldsBodies};
+ghost use Rattle.nb_model.specs.Limits.{kick_limit, most_bodies};
+ghost use Rattle.nb_model.specs.Valid.{IsBelow, IsValidBody};
+ghost use Rattle.nb_cache.specs.InStep.{IsCachedFile, IsCacheable, IsInStep};
+ghost use Rattle.nb_cache.specs.View.{names_of, seen, Seen, Same, IsWhole};
+ghost use Rattle.nb_cache.specs.Writes.{RanCached};
+ghost use Rattle.nb_record.specs.Order.{record_of, HoldsBodies, HoldsKickedBodies};
 ghost use Rattle.nb_record.specs.Pages.{page_count, IsBodyPage};
-ghost use Rattle.nb_record.specs.Records.{body_of, body_record, IsBodyRecord};
-ghost use Rattle.nb_order.specs.Errors.{CountsOrderFault};
-ghost use Rattle.nb_order.specs.Files.{page_of_body, HasBody, HasRoomFor};
+ghost use Rattle.nb_record.specs.Records.{body_of, body_record, kick_of, IsBodyRecord};
+ghost use Rattle.nb_record.specs.Writing.{IsZeroPadded};
+ghost use Rattle.nb_order.specs.Files.{page_of_body, HasBody, HasRoomFor, IsBodyAt, HasPushed};
+ghost use Rattle.nb_order.specs.Refusals.{IsNoBody, HasNoRoom};
 
 use crate::order_error::OrderError;
 use nb_cache::Cache;
-use nb_host::{Host, PageName};
-use nb_model::Body;
-use nb_record::{BODIES_PER_PAGE, BodyPage, PAGE_SIZE, add_body, begin_body_page};
+use nb_host::{Host, PAGE_SIZE, PageName};
+use nb_model::{Body, V3};
+use nb_record::{BODIES_PER_PAGE, BODY_SIZE, BodyPage, add_body, begin_body_page};
+
+/// A body of a file and its kick, in box units a tick.
+#[derive(Clone, Copy, PartialEq, Eq, Debug)]
+pub(crate) struct KickedBody {
+    pub(crate) body: Body,
+    pub(crate) kick: V3,
+}
 
 /// The page of a file on which the body of this number stands, counted from 0.
 pub(crate) fn page_name(file: u64, index: u64) -> PageName
-    ensures { result ≡ page_of_body file index }
+    ensures value { result ≡ page_of_body file index }
+    ensures cacheable { IsCachedFile file → index ≤ most_bodies → IsCacheable result }
 {
     PageName {
         file,
@@ -38,30 +49,72 @@ pub fn body_at<H: Host>(
     file: u64,
     index: u64,
 ) -> Result<Body, OrderError>
-    requires least { 3 ≤ file }
-    requires greatest { file ≤ 7 }
-    requires index { index ≤ 2 ^ 24 }
-    requires in_step { IsInStep H.tells H.contents cache.old host.old }
+    requires file { IsCachedFile file }
+    requires index { index ≤ most_bodies }
+    requires in_step { IsInStep H.meaning cache.old host.old }
     ensures valid { IfOk result (λ body. IsValidBody body) }
-    ensures read { IsTrue (H.tells host.old) → IfOk result (λ body.
-        HasBody (view_of cache.old (H.contents host.old) file) index
-        × (body ≡ body_of (record_of (view_of cache.old (H.contents host.old) file) index))) }
-    ensures listed { IsTrue (H.tells host.old) → (bodies : List Bodies)
-        → HoldsBodies (view_of cache.old (H.contents host.old) file) bodies
+    ensures read { IfOk result (λ body. IsTrue H.meaning.tells
+        → HasBody (seen H.meaning cache.old host.old file) index
+        × (body ≡ body_of (record_of (seen H.meaning cache.old host.old file) index))) }
+    ensures listed { IsTrue H.meaning.tells → (bodies : List Bodies)
+        → HoldsBodies (seen H.meaning cache.old host.old file) bodies
         → IfOk result (λ body. slice_get bodies index ≡ Some body) }
-    ensures page { (name : PageNames) → result ≡ Err (OrderError.Damaged name)
-        → name ≡ page_of_body file index }
-    ensures damaged { (name : PageNames) → result ≡ Err (OrderError.Damaged name) → IsTrue (H.tells host.old)
-        → HasBody (view_of cache.old (H.contents host.old) file) index → ⊥ }
-    ensures writes { Writes H.crashes H.tells H.contents [] cache.old host.old cache.new host.new }
-    ensures fault { CountsOrderFault (H.faults host.old) (H.faults host.new) result }
-    ensures refused { H.refused_says host.new ≡ H.refused_says host.old }
+    ensures damaged { (name : PageNames) → result ≡ Err (OrderError.Damaged name)
+        → IsNoBody H.meaning cache.old host.old file index name }
+    ensures ran { RanCached H.meaning OrderError.Fault [] cache.old host.old cache.new host.new result }
+{
+    let found = kicked_at(host, cache, file, index)?;
+    Ok(found.body)
+}
+
+/// The kick of the body of this number in a file of bodies, counted from 0, in box units a tick.
+pub fn kick_at<H: Host>(
+    host: &mut H,
+    cache: &mut Cache,
+    file: u64,
+    index: u64,
+) -> Result<V3, OrderError>
+    requires file { IsCachedFile file }
+    requires index { index ≤ most_bodies }
+    requires in_step { IsInStep H.meaning cache.old host.old }
+    ensures range { IfOk result (λ kick. IsBelow kick_limit kick) }
+    ensures read { IfOk result (λ kick. IsTrue H.meaning.tells
+        → HasBody (seen H.meaning cache.old host.old file) index
+        × (kick ≡ kick_of (record_of (seen H.meaning cache.old host.old file) index))) }
+    ensures listed { IsTrue H.meaning.tells → (kick_for : Bodies → Vectors) (bodies : List Bodies) (body : Bodies)
+        → HoldsKickedBodies (seen H.meaning cache.old host.old file) kick_for bodies
+        → slice_get bodies index ≡ Some body → IfOk result (λ kick. kick ≡ kick_for body) }
+    ensures damaged { (name : PageNames) → result ≡ Err (OrderError.Damaged name)
+        → IsNoBody H.meaning cache.old host.old file index name }
+    ensures ran { RanCached H.meaning OrderError.Fault [] cache.old host.old cache.new host.new result }
+{
+    let found = kicked_at(host, cache, file, index)?;
+    Ok(found.kick)
+}
+
+/// The body of this number in a file of bodies, counted from 0, with its kick.
+pub(crate) fn kicked_at<H: Host>(
+    host: &mut H,
+    cache: &mut Cache,
+    file: u64,
+    index: u64,
+) -> Result<KickedBody, OrderError>
+    requires file { IsCachedFile file }
+    requires index { index ≤ most_bodies }
+    requires in_step { IsInStep H.meaning cache.old host.old }
+    ensures valid { IfOk result (λ found. IsValidBody found.body) }
+    ensures range { IfOk result (λ found. IsBelow kick_limit found.kick) }
+    ensures read { IfOk result (λ found. IsTrue H.meaning.tells
+        → IsBodyAt (seen H.meaning cache.old host.old file) index found.body found.kick) }
+    ensures damaged { (name : PageNames) → result ≡ Err (OrderError.Damaged name)
+        → IsNoBody H.meaning cache.old host.old file index name }
+    ensures ran { RanCached H.meaning OrderError.Fault [] cache.old host.old cache.new host.new result }
 {
     let name = page_name(file, index);
     fetch_page(host, cache, name)?;
     let bytes = cache.lent(name).unwrap();
     match read_record(bytes, name.page, index % BODIES_PER_PAGE) {
-        Some(body) => Ok(body),
+        Some(found) => Ok(found),
         None => Err(OrderError::Damaged(name)),
     }
 }
@@ -69,74 +122,74 @@ pub fn body_at<H: Host>(
 /// Makes a page of a file resident. It is damaged where it isn't whole in the file.
 fn fetch_page<H: Host>(host: &mut H, cache: &mut Cache, name: PageName) -> Result<(), OrderError>
     requires name { IsCacheable name }
-    requires in_step { IsInStep H.tells H.contents cache.old host.old }
+    requires in_step { IsInStep H.meaning cache.old host.old }
     ensures resident { OnOk result (Contains (names_of cache.new) name) }
-    ensures whole { OnOk result (IsTrue (H.tells host.old) → IsWhole cache.old (H.contents host.old) name) }
+    ensures whole { OnOk result (IsTrue H.meaning.tells
+        → IsWhole cache.old (H.meaning.contents host.old) name) }
     ensures named { (other : PageNames) → result ≡ Err (OrderError.Damaged other) → other ≡ name }
-    ensures short { (other : PageNames) → result ≡ Err (OrderError.Damaged other) → IsTrue (H.tells host.old)
-        → ¬ IsWhole cache.old (H.contents host.old) name }
-    ensures writes { Writes H.crashes H.tells H.contents [] cache.old host.old cache.new host.new }
-    ensures fault { CountsOrderFault (H.faults host.old) (H.faults host.new) result }
-    ensures refused { H.refused_says host.new ≡ H.refused_says host.old }
+    ensures short { (other : PageNames) → result ≡ Err (OrderError.Damaged other) → IsTrue H.meaning.tells
+        → ¬ IsWhole cache.old (H.meaning.contents host.old) name }
+    ensures ran { RanCached H.meaning OrderError.Fault [] cache.old host.old cache.new host.new result }
 {
     let _ = cache.pages();
     cache.fetch(host, &[name])?;
     Ok(())
 }
 
-/// The body of a record of a page, where the page and the record are of the form.
-fn read_record(bytes: &[u8], page: u64, place: u64) -> Option<Body>
-    requires { length bytes.now ≡ 4096 }
+/// The body and the kick of a record of a page, where the page and the record are of the form.
+fn read_record(bytes: &[u8], page: u64, index: u64) -> Option<KickedBody>
+    requires { length bytes.now ≡ PAGE_SIZE }
     ensures form { IfSome result (λ _. IsBodyPage page bytes.now) }
-    ensures within { IfSome result (λ _. place < page_count bytes.now) }
-    ensures body { IfSome result (λ body. IsBodyRecord (body_record place bytes.now)
-        × (body ≡ body_of (body_record place bytes.now))) }
-    ensures none { IfNone result (IsBodyPage page bytes.now → place < page_count bytes.now
-        → ¬ IsBodyRecord (body_record place bytes.now)) }
+    ensures within { IfSome result (λ _. index < page_count bytes.now) }
+    ensures valid { IfSome result (λ _. IsBodyRecord (body_record index bytes.now)) }
+    ensures body { IfSome result (λ found. found.body ≡ body_of (body_record index bytes.now)) }
+    ensures kick { IfSome result (λ found. found.kick ≡ kick_of (body_record index bytes.now)) }
+    ensures none { IfNone result (IsBodyPage page bytes.now → index < page_count bytes.now
+        → ¬ IsBodyRecord (body_record index bytes.now)) }
 {
     let Ok(bodies) = BodyPage::check(bytes, page) else {
         return None;
     };
-    if place >= bodies.count() {
+    if index >= bodies.count() {
         return None;
     }
-    bodies.body(place)
+    match bodies.body(index) {
+        Some(body) => Some(KickedBody {
+            body,
+            kick: bodies.kick(index),
+        }),
+        None => None,
+    }
 }
 
-/// Adds a body behind the others of a file of bodies. It gets this number, counted from 0, which is how many
-/// bodies the file has. After Fault its page may hold anything.
+/// Adds a body with its kick, in box units a tick, behind the others of a file of bodies. It gets this number,
+/// counted from 0, which is how many bodies the file has. After Fault its page may hold anything.
 pub fn push_body<H: Host>(
     host: &mut H,
     cache: &mut Cache,
     file: u64,
     index: u64,
     body: &Body,
+    kick: &V3,
 ) -> Result<(), OrderError>
-    requires least { 3 ≤ file }
-    requires greatest { file ≤ 7 }
-    requires index { index ≤ 2 ^ 24 }
+    requires file { IsCachedFile file }
+    requires index { index ≤ most_bodies }
     requires valid { IsValidBody body.now }
-    requires in_step { IsInStep H.tells H.contents cache.old host.old }
-    ensures pushed { OnOk result (IsTrue (H.tells host.old) → (bodies : List Bodies)
-        → HoldsBodies (view_of cache.old (H.contents host.old) file) bodies → length bodies ≡ index
-        → HoldsBodies (view_of cache.new (H.contents host.new) file) (bodies ++ body.now ∷ [])) }
-    ensures page { (name : PageNames) → result ≡ Err (OrderError.Damaged name)
-        → name ≡ page_of_body file index }
-    ensures damaged { (name : PageNames) → result ≡ Err (OrderError.Damaged name) → IsTrue (H.tells host.old)
-        → HasRoomFor (view_of cache.old (H.contents host.old) file) index → ⊥ }
-    ensures listed { (name : PageNames) → result ≡ Err (OrderError.Damaged name) → IsTrue (H.tells host.old)
-        → (bodies : List Bodies) → HoldsBodies (view_of cache.old (H.contents host.old) file) bodies
-        → length bodies ≢ index }
-    ensures stays { OnErr result (result ≢ Err OrderError.Fault → IsTrue (H.tells host.old) → (other : ℕ)
-        → view_of cache.new (H.contents host.new) other ≡ view_of cache.old (H.contents host.old) other) }
-    ensures writes { Writes H.crashes H.tells H.contents (file ∷ []) cache.old host.old cache.new host.new }
-    ensures fault { CountsOrderFault (H.faults host.old) (H.faults host.new) result }
-    ensures refused { H.refused_says host.new ≡ H.refused_says host.old }
+    requires kick { IsBelow kick_limit kick.now }
+    requires in_step { IsInStep H.meaning cache.old host.old }
+    ensures pushed { OnOk result (Seen H.meaning file (HasPushed index body.now kick.now)
+        cache.old host.old cache.new host.new) }
+    ensures damaged { (name : PageNames) → result ≡ Err (OrderError.Damaged name)
+        → HasNoRoom H.meaning cache.old host.old file index name }
+    ensures stays { OnErr result (result ≢ Err OrderError.Fault → (other : ℕ)
+        → Seen H.meaning other Same cache.old host.old cache.new host.new) }
+    ensures ran { RanCached H.meaning OrderError.Fault (file ∷ []) cache.old host.old
+        cache.new host.new result }
 {
     let name = page_name(file, index);
     let mut bytes = [0; PAGE_SIZE];
     open_page(host, cache, file, index, &mut bytes)?;
-    add_body(&mut bytes, body);
+    add_body(&mut bytes, body, kick);
     cache.put(host, name, &bytes)?;
     Ok(())
 }
@@ -150,23 +203,19 @@ fn open_page<H: Host>(
     index: u64,
     into: &mut [u8],
 ) -> Result<(), OrderError>
-    requires least { 3 ≤ file }
-    requires greatest { file ≤ 7 }
-    requires index { index ≤ 2 ^ 24 }
-    requires in_step { IsInStep H.tells H.contents cache.old host.old }
-    requires size { length into.old ≡ 4096 }
-    ensures size { length into.new ≡ 4096 }
-    ensures form { OnOk result (IsBodyPage (index / 63) into.new) }
-    ensures count { OnOk result (page_count into.new ≡ index % 63) }
-    ensures read { OnOk result (IsTrue (H.tells host.old) → index % 63 ≢ 0
-        → into.new ≡ page_of (view_of cache.old (H.contents host.old) file) (index / 63)) }
-    ensures page { (name : PageNames) → result ≡ Err (OrderError.Damaged name)
-        → name ≡ page_of_body file index }
-    ensures damaged { (name : PageNames) → result ≡ Err (OrderError.Damaged name) → IsTrue (H.tells host.old)
-        → HasRoomFor (view_of cache.old (H.contents host.old) file) index → ⊥ }
-    ensures writes { Writes H.crashes H.tells H.contents [] cache.old host.old cache.new host.new }
-    ensures fault { CountsOrderFault (H.faults host.old) (H.faults host.new) result }
-    ensures refused { H.refused_says host.new ≡ H.refused_says host.old }
+    requires file { IsCachedFile file }
+    requires index { index ≤ most_bodies }
+    requires in_step { IsInStep H.meaning cache.old host.old }
+    requires size { length into.old ≡ PAGE_SIZE }
+    ensures size { length into.new ≡ PAGE_SIZE }
+    ensures form { OnOk result (IsBodyPage (index / BODIES_PER_PAGE) into.new) }
+    ensures count { OnOk result (page_count into.new ≡ index % BODIES_PER_PAGE) }
+    ensures fresh { OnOk result (index % BODIES_PER_PAGE ≡ 0 → IsZeroPadded BODY_SIZE into.new) }
+    ensures read { OnOk result (IsTrue H.meaning.tells → index % BODIES_PER_PAGE ≢ 0
+        → into.new ≡ page_of (seen H.meaning cache.old host.old file) (index / BODIES_PER_PAGE)) }
+    ensures damaged { (name : PageNames) → result ≡ Err (OrderError.Damaged name)
+        → HasNoRoom H.meaning cache.old host.old file index name }
+    ensures ran { RanCached H.meaning OrderError.Fault [] cache.old host.old cache.new host.new result }
 {
     let name = page_name(file, index);
     let count = index % BODIES_PER_PAGE;
@@ -185,7 +234,7 @@ fn open_page<H: Host>(
 
 /// Whether a page is of the form and has so many bodies.
 fn has_bodies(bytes: &[u8], page: u64, count: u64) -> bool
-    requires { length bytes.now ≡ 4096 }
+    requires { length bytes.now ≡ PAGE_SIZE }
     ensures { IsTrue result ↔ (IsBodyPage page bytes.now × (page_count bytes.now ≡ count)) }
 {
     match BodyPage::check(bytes, page) {

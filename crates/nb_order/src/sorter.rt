@@ -1,18 +1,19 @@
 //! Sorting a file of bodies into another.
 
-ghost use Rattle.std.specs.Prelude.{◌≡◌, ◌≢◌, ℕ, ◌+◌, ◌^◌, ◌<◌, ◌≤◌, ◌⊎◌, List, [], ◌∷◌, ◌++◌, length, slice_get};
+ghost use Rattle.std.specs.Prelude.{◌≡◌, ◌≢◌, ◌⊎◌, ℕ, ◌+◌, ◌<◌, ◌≤◌, List, [], ◌∷◌, ◌++◌, length, slice_get};
 ghost use Rattle.std.specs.Prelude.{IsTrue, All, IfOk, OnOk, Err, Some};
 ghost use Rattle.std.specs.BTreeMap.{values, btree_map_len};
 ghost use Rattle.nb_host.specs.declared.page_name.PageName.{PageName as PageNames};
 ghost use Rattle.nb_model.specs.declared.body.Body.{Body as Bodies};
-ghost use Rattle.nb_cache.specs.InStep.{IsInStep};
-ghost use Rattle.nb_cache.specs.View.{view_of};
-ghost use Rattle.nb_cache.specs.Writes.{Writes};
-ghost use Rattle.nb_record.specs.Order.{sorted_by, HaveDifferentIds, HoldsBodies};
-ghost use Rattle.nb_order.specs.Errors.{CountsOrderFault};
-ghost use Rattle.nb_order.specs.Places.{AreFirstPlaces, AreNumbersOf};
+ghost use Rattle.nb_model.specs.Limits.{most_bodies};
+ghost use Rattle.nb_cache.specs.InStep.{IsCachedFile, IsInStep};
+ghost use Rattle.nb_cache.specs.View.{seen};
+ghost use Rattle.nb_cache.specs.Writes.{RanCached};
+ghost use Rattle.nb_order.specs.Files.{page_of_body, HasBody, IsSortedCopy, IsDouble, IsUnsortable};
+ghost use Rattle.nb_order.specs.Places.{AreNumbersOf, AreReadTo, HasFirst, IsCopyOf};
+ghost use Rattle.nb_order.specs.Refusals.{IsUnsorted};
 
-use crate::body_file::{body_at, page_name, push_body};
+use crate::body_file::{body_at, kicked_at, page_name, push_body};
 use crate::order::Order;
 use crate::order_error::OrderError;
 use nb_cache::Cache;
@@ -36,9 +37,9 @@ impl Sorter {
 /// The numbers of bodies in a file, by rank and id.
 type Places = BTreeMap<(u128, u64), u64>;
 
-/// Sorts the bodies of a file, of which there are `count`, into another file. It goes through the file once,
-/// and keeps the rank, the id and the number of each body in memory; then it copies the bodies in order,
-/// each read again by its number.
+/// Sorts the bodies of a file, of which there are `count`, into another file, each with its kick. It goes
+/// through the file once, and keeps the rank, the id and the number of each body in memory; then it copies
+/// the records in order, each read again by its number.
 pub fn reorder<H: Host, O: Order>(
     host: &mut H,
     cache: &mut Cache,
@@ -48,25 +49,17 @@ pub fn reorder<H: Host, O: Order>(
     to: u64,
     count: u64,
 ) -> Result<(), OrderError>
-    requires from_least { 3 ≤ from }
-    requires from_greatest { from ≤ 7 }
-    requires to_least { 3 ≤ to }
-    requires to_greatest { to ≤ 7 }
+    requires from { IsCachedFile from }
+    requires to { IsCachedFile to }
     requires differ { from ≢ to }
-    requires count { count ≤ 2 ^ 24 }
-    requires in_step { IsInStep H.tells H.contents cache.old host.old }
-    ensures sorted { OnOk result (IsTrue (H.tells host.old) → (bodies : List Bodies)
-        → HoldsBodies (view_of cache.old (H.contents host.old) from) bodies → length bodies ≡ count
-        → HaveDifferentIds bodies
-        → HoldsBodies (view_of cache.new (H.contents host.new) to) (sorted_by O.rank_of bodies)) }
-    ensures page { (name : PageNames) → result ≡ Err (OrderError.Damaged name)
-        → (name.file ≡ from) ⊎ (name.file ≡ to) }
-    ensures damaged { (name : PageNames) → result ≡ Err (OrderError.Damaged name) → IsTrue (H.tells host.old)
-        → (bodies : List Bodies) → HoldsBodies (view_of cache.old (H.contents host.old) from) bodies
-        → length bodies ≡ count → HaveDifferentIds bodies → ⊥ }
-    ensures writes { Writes H.crashes H.tells H.contents (to ∷ []) cache.old host.old cache.new host.new }
-    ensures fault { CountsOrderFault (H.faults host.old) (H.faults host.new) result }
-    ensures refused { H.refused_says host.new ≡ H.refused_says host.old }
+    requires count { count ≤ most_bodies }
+    requires in_step { IsInStep H.meaning cache.old host.old }
+    ensures sorted { OnOk result (IsTrue H.meaning.tells → IsSortedCopy O.rank_of count
+        (seen H.meaning cache.old host.old from) (seen H.meaning cache.new host.new to)) }
+    ensures damaged { (name : PageNames) → result ≡ Err (OrderError.Damaged name)
+        → IsUnsorted H.meaning O.rank_of cache.old host.old from to count name }
+    ensures ran { RanCached H.meaning OrderError.Fault (to ∷ []) cache.old host.old
+        cache.new host.new result }
 {
     let places = places_of(host, cache, sorter, order, from, count)?;
     cache.empty(host, to)?;
@@ -82,22 +75,17 @@ fn places_of<H: Host, O: Order>(
     from: u64,
     count: u64,
 ) -> Result<Places, OrderError>
-    requires from_least { 3 ≤ from }
-    requires from_greatest { from ≤ 7 }
-    requires count { count ≤ 2 ^ 24 }
-    requires in_step { IsInStep H.tells H.contents cache.old host.old }
-    ensures sorted { IfOk result (λ places. IsTrue (H.tells host.old) → (bodies : List Bodies)
-        → HoldsBodies (view_of cache.old (H.contents host.old) from) bodies → length bodies ≡ count
-        → AreNumbersOf bodies (values places) (sorted_by O.rank_of bodies)) }
-    ensures numbers { IfOk result (λ places. All (λ number. number < 2 ^ 24) (values places)) }
-    ensures few { IfOk result (λ places. btree_map_len places ≤ 2 ^ 24) }
+    requires from { IsCachedFile from }
+    requires count { count ≤ most_bodies }
+    requires in_step { IsInStep H.meaning cache.old host.old }
+    ensures read { IfOk result (λ places. IsTrue H.meaning.tells
+        → AreReadTo O.rank_of (seen H.meaning cache.old host.old from) count places.entries) }
+    ensures numbers { IfOk result (λ places. All (λ number. number < most_bodies) (values places)) }
+    ensures few { IfOk result (λ places. btree_map_len places ≤ most_bodies) }
     ensures page { (name : PageNames) → result ≡ Err (OrderError.Damaged name) → name.file ≡ from }
-    ensures damaged { (name : PageNames) → result ≡ Err (OrderError.Damaged name) → IsTrue (H.tells host.old)
-        → (bodies : List Bodies) → HoldsBodies (view_of cache.old (H.contents host.old) from) bodies
-        → length bodies ≡ count → HaveDifferentIds bodies → ⊥ }
-    ensures writes { Writes H.crashes H.tells H.contents [] cache.old host.old cache.new host.new }
-    ensures fault { CountsOrderFault (H.faults host.old) (H.faults host.new) result }
-    ensures refused { H.refused_says host.new ≡ H.refused_says host.old }
+    ensures shown { (name : PageNames) → result ≡ Err (OrderError.Damaged name) → IsTrue H.meaning.tells
+        → IsUnsortable O.rank_of from count (seen H.meaning cache.old host.old from) name }
+    ensures ran { RanCached H.meaning OrderError.Fault [] cache.old host.old cache.new host.new result }
 {
     let mut places = BTreeMap::new(sorter.alloc);
     for index in 0..count {
@@ -115,25 +103,21 @@ fn add_place<H: Host, O: Order>(
     from: u64,
     index: u64,
 ) -> Result<(), OrderError>
-    requires from_least { 3 ≤ from }
-    requires from_greatest { from ≤ 7 }
-    requires index { index < 2 ^ 24 }
-    requires in_step { IsInStep H.tells H.contents cache.old host.old }
+    requires from { IsCachedFile from }
+    requires index { index < most_bodies }
+    requires in_step { IsInStep H.meaning cache.old host.old }
     requires numbers { All (λ number. number < index) (values places.old) }
     ensures numbers { OnOk result (All (λ number. number < index + 1) (values places.new)) }
     ensures count { OnOk result (btree_map_len places.new ≡ btree_map_len places.old + 1) }
-    ensures sorted { OnOk result (IsTrue (H.tells host.old) → (bodies : List Bodies)
-        → HoldsBodies (view_of cache.old (H.contents host.old) from) bodies
-        → AreFirstPlaces O.rank_of bodies index places.old.entries
-        → AreFirstPlaces O.rank_of bodies (index + 1) places.new.entries) }
-    ensures page { (name : PageNames) → result ≡ Err (OrderError.Damaged name) → name.file ≡ from }
-    ensures damaged { (name : PageNames) → result ≡ Err (OrderError.Damaged name) → IsTrue (H.tells host.old)
-        → (bodies : List Bodies) → HoldsBodies (view_of cache.old (H.contents host.old) from) bodies
-        → index < length bodies → HaveDifferentIds bodies
-        → AreFirstPlaces O.rank_of bodies index places.old.entries → ⊥ }
-    ensures writes { Writes H.crashes H.tells H.contents [] cache.old host.old cache.new host.new }
-    ensures fault { CountsOrderFault (H.faults host.old) (H.faults host.new) result }
-    ensures refused { H.refused_says host.new ≡ H.refused_says host.old }
+    ensures read { OnOk result (IsTrue H.meaning.tells
+        → AreReadTo O.rank_of (seen H.meaning cache.old host.old from) index places.old.entries
+        → AreReadTo O.rank_of (seen H.meaning cache.old host.old from) (index + 1) places.new.entries) }
+    ensures page { (name : PageNames) → result ≡ Err (OrderError.Damaged name) → name ≡ page_of_body from index }
+    ensures cause { (name : PageNames) → result ≡ Err (OrderError.Damaged name) → IsTrue H.meaning.tells
+        → AreReadTo O.rank_of (seen H.meaning cache.old host.old from) index places.old.entries
+        → (HasBody (seen H.meaning cache.old host.old from) index → ⊥)
+        ⊎ IsDouble O.rank_of (seen H.meaning cache.old host.old from) index }
+    ensures ran { RanCached H.meaning OrderError.Fault [] cache.old host.old cache.new host.new result }
 {
     let body = body_at(host, cache, from, index)?;
     match places.insert((order.rank(&body), body.id), index)? {
@@ -142,7 +126,7 @@ fn add_place<H: Host, O: Order>(
     }
 }
 
-/// Copies the bodies of these numbers, in the order of the map, into an empty file.
+/// Copies the records of these numbers, in the order of the map, into an empty file.
 fn copy<H: Host>(
     host: &mut H,
     cache: &mut Cache,
@@ -150,27 +134,25 @@ fn copy<H: Host>(
     from: u64,
     to: u64,
 ) -> Result<(), OrderError>
-    requires from_least { 3 ≤ from }
-    requires from_greatest { from ≤ 7 }
-    requires to_least { 3 ≤ to }
-    requires to_greatest { to ≤ 7 }
+    requires from { IsCachedFile from }
+    requires to { IsCachedFile to }
     requires differ { from ≢ to }
-    requires numbers { All (λ number. number < 2 ^ 24) (values places.now) }
-    requires few { btree_map_len places.now ≤ 2 ^ 24 }
-    requires in_step { IsInStep H.tells H.contents cache.old host.old }
-    requires empty { IsTrue (H.tells host.old) → view_of cache.old (H.contents host.old) to ≡ [] }
-    ensures copied { OnOk result (IsTrue (H.tells host.old) → (bodies list : List Bodies)
-        → HoldsBodies (view_of cache.old (H.contents host.old) from) bodies
+    requires numbers { All (λ number. number < most_bodies) (values places.now) }
+    requires few { btree_map_len places.now ≤ most_bodies }
+    requires in_step { IsInStep H.meaning cache.old host.old }
+    requires empty { IsTrue H.meaning.tells → seen H.meaning cache.old host.old to ≡ [] }
+    ensures copied { OnOk result (IsTrue H.meaning.tells → (bodies list : List Bodies)
+        → HasFirst (seen H.meaning cache.old host.old from) bodies
         → AreNumbersOf bodies (values places.now) list
-        → HoldsBodies (view_of cache.new (H.contents host.new) to) list) }
+        → IsCopyOf (seen H.meaning cache.old host.old from) bodies
+        (seen H.meaning cache.new host.new to) list) }
     ensures page { (name : PageNames) → result ≡ Err (OrderError.Damaged name)
         → (name.file ≡ from) ⊎ (name.file ≡ to) }
-    ensures damaged { (name : PageNames) → result ≡ Err (OrderError.Damaged name) → IsTrue (H.tells host.old)
-        → (bodies list : List Bodies) → HoldsBodies (view_of cache.old (H.contents host.old) from) bodies
+    ensures damaged { (name : PageNames) → result ≡ Err (OrderError.Damaged name) → IsTrue H.meaning.tells
+        → (bodies list : List Bodies) → HasFirst (seen H.meaning cache.old host.old from) bodies
         → AreNumbersOf bodies (values places.now) list → ⊥ }
-    ensures writes { Writes H.crashes H.tells H.contents (to ∷ []) cache.old host.old cache.new host.new }
-    ensures fault { CountsOrderFault (H.faults host.old) (H.faults host.new) result }
-    ensures refused { H.refused_says host.new ≡ H.refused_says host.old }
+    ensures ran { RanCached H.meaning OrderError.Fault (to ∷ []) cache.old host.old
+        cache.new host.new result }
 {
     let mut count = 0;
     for &index in places.values() {
@@ -180,7 +162,7 @@ fn copy<H: Host>(
     Ok(())
 }
 
-/// Adds the body of this number to a file that has `count` bodies.
+/// Adds the body of this number, with its kick, to a file that has `count` bodies.
 fn copy_body<H: Host>(
     host: &mut H,
     cache: &mut Cache,
@@ -189,31 +171,31 @@ fn copy_body<H: Host>(
     to: u64,
     count: u64,
 ) -> Result<(), OrderError>
-    requires from_least { 3 ≤ from }
-    requires from_greatest { from ≤ 7 }
-    requires index { index < 2 ^ 24 }
-    requires to_least { 3 ≤ to }
-    requires to_greatest { to ≤ 7 }
-    requires count { count < 2 ^ 24 }
-    requires in_step { IsInStep H.tells H.contents cache.old host.old }
-    ensures copied { OnOk result (IsTrue (H.tells host.old) → (bodies copied : List Bodies) (body : Bodies)
-        → HoldsBodies (view_of cache.old (H.contents host.old) from) bodies
-        → HoldsBodies (view_of cache.old (H.contents host.old) to) copied → length copied ≡ count
-        → slice_get bodies index ≡ Some body
-        → HoldsBodies (view_of cache.new (H.contents host.new) to) (copied ++ body ∷ [])) }
+    requires from { IsCachedFile from }
+    requires index { index < most_bodies }
+    requires to { IsCachedFile to }
+    requires count { count < most_bodies }
+    requires in_step { IsInStep H.meaning cache.old host.old }
+    ensures copied { OnOk result (IsTrue H.meaning.tells → (bodies copied : List Bodies) (body : Bodies)
+        → HasFirst (seen H.meaning cache.old host.old from) bodies
+        → IsCopyOf (seen H.meaning cache.old host.old from) bodies
+        (seen H.meaning cache.old host.old to) copied
+        → length copied ≡ count → slice_get bodies index ≡ Some body
+        → IsCopyOf (seen H.meaning cache.old host.old from) bodies
+        (seen H.meaning cache.new host.new to) (copied ++ body ∷ [])) }
     ensures page { (name : PageNames) → result ≡ Err (OrderError.Damaged name)
         → (name.file ≡ from) ⊎ (name.file ≡ to) }
-    ensures damaged { (name : PageNames) → result ≡ Err (OrderError.Damaged name) → IsTrue (H.tells host.old)
+    ensures damaged { (name : PageNames) → result ≡ Err (OrderError.Damaged name) → IsTrue H.meaning.tells
         → (bodies copied : List Bodies) (body : Bodies)
-        → HoldsBodies (view_of cache.old (H.contents host.old) from) bodies
-        → HoldsBodies (view_of cache.old (H.contents host.old) to) copied → length copied ≡ count
-        → slice_get bodies index ≡ Some body → ⊥ }
-    ensures writes { Writes H.crashes H.tells H.contents (to ∷ []) cache.old host.old cache.new host.new }
-    ensures fault { CountsOrderFault (H.faults host.old) (H.faults host.new) result }
-    ensures refused { H.refused_says host.new ≡ H.refused_says host.old }
+        → HasFirst (seen H.meaning cache.old host.old from) bodies
+        → IsCopyOf (seen H.meaning cache.old host.old from) bodies
+        (seen H.meaning cache.old host.old to) copied
+        → length copied ≡ count → slice_get bodies index ≡ Some body → ⊥ }
+    ensures ran { RanCached H.meaning OrderError.Fault (to ∷ []) cache.old host.old
+        cache.new host.new result }
 {
-    let body = body_at(host, cache, from, index)?;
-    push_body(host, cache, to, count, &body)
+    let found = kicked_at(host, cache, from, index)?;
+    push_body(host, cache, to, count, &found.body, &found.kick)
 }
 
 #[cfg(test)]

@@ -1,12 +1,13 @@
 //! Bodies that are pushed and read, and pages that refuse them.
 
 ghost use Rattle.std.specs.Prelude.{◌≡◌, ◌≤◌};
-ghost use Rattle.nb_model.specs.Valid.{IsValidBody};
+ghost use Rattle.nb_model.specs.Limits.{kick_limit};
+ghost use Rattle.nb_model.specs.Valid.{IsBelow, IsValidBody};
 ghost use Rattle.nb_cache.specs.InStep.{IsInStep};
 
 use super::*;
 use nb_host::MemoryHost;
-use nb_model::{At, V3};
+use nb_model::At;
 use std::alloc::Global;
 use std::test::Fail;
 
@@ -33,14 +34,25 @@ fn body(id: u64) -> Body
     }
 }
 
-/// Pushes so many bodies into an empty file.
-fn push_bodies<H: Host>(host: &mut H, cache: &mut Cache, count: u64) -> Result<(), OrderError>
-    requires count { count ≤ 64 }
-    requires in_step { IsInStep H.tells H.contents cache.old host.old }
-    ensures { IsInStep H.tells H.contents cache.new host.new }
+/// The kick of the body of a number.
+fn kick(number: u8) -> V3
+    ensures { IsBelow kick_limit result }
 {
-    for index in 0..count {
-        push_body(host, cache, FILE, index, &body(index))?;
+    V3 {
+        x: i64::from(number),
+        y: -2,
+        z: 0,
+    }
+}
+
+/// Pushes so many bodies into an empty file, each with a kick of its own.
+fn push_bodies<H: Host>(host: &mut H, cache: &mut Cache, count: u8) -> Result<(), OrderError>
+    requires in_step { IsInStep H.meaning cache.old host.old }
+    ensures { IsInStep H.meaning cache.new host.new }
+{
+    for number in 0..count {
+        let index = u64::from(number);
+        push_body(host, cache, FILE, index, &body(index), &kick(number))?;
     }
     Ok(())
 }
@@ -52,12 +64,16 @@ fn two_pages_of_bodies(rt: HostRuntime) -> Result<(), Fail> {
     let mut cache = Cache::new(alloc, 4)?;
     assert_eq!(rt; push_bodies(&mut host, &mut cache, 64), Ok(()));
     assert_eq!(rt; host.bytes(FILE).len(), 8192);
-    assert_eq!(rt; body_at(&mut host, &mut cache, FILE, 62), Ok(body(62)));
+    assert_eq!(rt; body_at(&mut host, &mut cache, FILE, 45), Ok(body(45)));
+    assert_eq!(rt; kick_at(&mut host, &mut cache, FILE, 45), Ok(kick(45)));
+    assert_eq!(rt; body_at(&mut host, &mut cache, FILE, 46), Ok(body(46)));
+    assert_eq!(rt; kick_at(&mut host, &mut cache, FILE, 46), Ok(kick(46)));
     assert_eq!(rt; body_at(&mut host, &mut cache, FILE, 63), Ok(body(63)));
     let damaged = Err(OrderError::Damaged(page(1)));
     assert_eq!(rt; body_at(&mut host, &mut cache, FILE, 64), damaged);
     assert_eq!(rt; cache.put(&mut host, page(1), &[0; PAGE_SIZE]), Ok(()));
     assert_eq!(rt; body_at(&mut host, &mut cache, FILE, 63), damaged);
+    assert!(rt; kick_at(&mut host, &mut cache, FILE, 63).is_err());
     Ok(())
 }
 
@@ -68,15 +84,21 @@ fn a_body_of_another_number(rt: HostRuntime) -> Result<(), Fail> {
     let mut host = MemoryHost::new(alloc);
     let mut cache = Cache::new(alloc, 4)?;
     assert_eq!(rt;
-        push_body(&mut host, &mut cache, FILE, 5, &body(0)),
+        push_body(&mut host, &mut cache, FILE, 5, &body(0), &kick(0)),
         Err(damaged)
     );
-    assert_eq!(rt; push_body(&mut host, &mut cache, FILE, 0, &body(0)), Ok(()));
     assert_eq!(rt;
-        push_body(&mut host, &mut cache, FILE, 5, &body(1)),
+        push_body(&mut host, &mut cache, FILE, 0, &body(0), &kick(0)),
+        Ok(())
+    );
+    assert_eq!(rt;
+        push_body(&mut host, &mut cache, FILE, 5, &body(1), &kick(1)),
         Err(damaged)
     );
-    assert_eq!(rt; push_body(&mut host, &mut cache, FILE, 1, &body(1)), Ok(()));
+    assert_eq!(rt;
+        push_body(&mut host, &mut cache, FILE, 1, &body(1), &kick(1)),
+        Ok(())
+    );
     assert_eq!(rt; host.bytes(FILE).len(), 4096);
     assert_eq!(rt; body_at(&mut host, &mut cache, FILE, 1), Ok(body(1)));
     Ok(())
@@ -90,7 +112,7 @@ fn answers(
 ) -> Result<(Result<Body, OrderError>, Result<(), OrderError>), Fail> {
     let mut bytes = [0; PAGE_SIZE];
     begin_body_page(&mut bytes, 0);
-    add_body(&mut bytes, &body(0));
+    add_body(&mut bytes, &body(0), &kick(0));
     bytes[usize::from(place)] = byte;
     let mut host = MemoryHost::new(alloc);
     let mut cache = Cache::new(alloc, 4)?;
@@ -98,7 +120,7 @@ fn answers(
         .put(&mut host, page(0), &bytes)
         .map_err(OrderError::from)?;
     let read = body_at(&mut host, &mut cache, FILE, 0);
-    let pushed = push_body(&mut host, &mut cache, FILE, 1, &body(1));
+    let pushed = push_body(&mut host, &mut cache, FILE, 1, &body(1), &kick(1));
     Ok((read, pushed))
 }
 
@@ -107,15 +129,15 @@ fn pages_that_are_not_of_the_form(rt: HostRuntime) -> Result<(), Fail> {
     let alloc = rt.alloc();
     let damaged = OrderError::Damaged(page(0));
     // The number, a count too great, no body, a next page, and the zeros behind it.
-    for (place, byte) in [(0, 1), (8, 64), (8, 0), (16, 1), (24, 1)] {
+    for (place, byte) in [(0, 1), (8, 47), (8, 0), (16, 1), (24, 1)] {
         assert_eq!(rt;
             answers(alloc, place, byte)?,
             (Err(damaged), Err(damaged)),
             "byte {place}"
         );
     }
-    // No mass, a flag too great, and a position outside the box.
-    for (place, byte) in [(40, 0), (44, 2), (53, 1)] {
+    // No mass, a flag too great, a position outside the box, and a kick too great.
+    for (place, byte) in [(40, 0), (44, 2), (53, 1), (103, 16)] {
         assert_eq!(rt;
             answers(alloc, place, byte)?,
             (Err(damaged), Ok(())),
@@ -132,10 +154,13 @@ fn a_write_that_fails(rt: HostRuntime) -> Result<(), Fail> {
     let mut cache = Cache::new(alloc, 4)?;
     host.fail_at(&[1])?;
     assert_eq!(rt;
-        push_body(&mut host, &mut cache, FILE, 0, &body(0)),
+        push_body(&mut host, &mut cache, FILE, 0, &body(0), &kick(0)),
         Err(OrderError::Fault)
     );
-    assert_eq!(rt; push_body(&mut host, &mut cache, FILE, 0, &body(0)), Ok(()));
+    assert_eq!(rt;
+        push_body(&mut host, &mut cache, FILE, 0, &body(0), &kick(0)),
+        Ok(())
+    );
     assert_eq!(rt; body_at(&mut host, &mut cache, FILE, 0), Ok(body(0)));
     assert_eq!(rt; host.faults(), 1);
     Ok(())

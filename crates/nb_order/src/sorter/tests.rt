@@ -1,10 +1,11 @@
 //! Sorted files with known answers.
 
 ghost use Rattle.std.specs.Prelude.{◌≡◌, ◌<◌};
-ghost use Rattle.nb_model.specs.Limits.{box_side};
-ghost use Rattle.nb_model.specs.Valid.{IsValidBody};
+ghost use Rattle.nb_model.specs.Limits.{box_side, kick_limit};
+ghost use Rattle.nb_model.specs.Valid.{IsBelow, IsValidBody};
 
 use super::*;
+use crate::body_file::kick_at;
 use crate::order::{ById, ByKey};
 use nb_host::{MemoryHost, PageName};
 use nb_model::{At, Body, V3};
@@ -34,6 +35,17 @@ fn body(id: u64, x: u64, out: bool) -> Body
     }
 }
 
+/// The kick of the body of an id.
+fn kick(id: u8) -> V3
+    ensures { IsBelow kick_limit result }
+{
+    V3 {
+        x: i64::from(id),
+        y: 0,
+        z: -1,
+    }
+}
+
 #[test]
 fn bodies_are_sorted(rt: HostRuntime) -> Result<(), Fail> {
     let alloc = rt.alloc();
@@ -41,15 +53,22 @@ fn bodies_are_sorted(rt: HostRuntime) -> Result<(), Fail> {
     let mut cache = Cache::new(alloc, 4)?;
     let mut sorter = Sorter::new(alloc);
     assert_eq!(rt;
-        push_body(&mut host, &mut cache, FROM, 0, &body(1, HALF, false)),
+        push_body(
+            &mut host,
+            &mut cache,
+            FROM,
+            0,
+            &body(1, HALF, false),
+            &kick(1)
+        ),
         Ok(())
     );
     assert_eq!(rt;
-        push_body(&mut host, &mut cache, FROM, 1, &body(2, 0, true)),
+        push_body(&mut host, &mut cache, FROM, 1, &body(2, 0, true), &kick(2)),
         Ok(())
     );
     assert_eq!(rt;
-        push_body(&mut host, &mut cache, FROM, 2, &body(3, 0, false)),
+        push_body(&mut host, &mut cache, FROM, 2, &body(3, 0, false), &kick(3)),
         Ok(())
     );
     let from = Vec::from_slice(alloc, host.bytes(FROM))?;
@@ -64,6 +83,9 @@ fn bodies_are_sorted(rt: HostRuntime) -> Result<(), Fail> {
         Ok(body(1, HALF, false))
     );
     assert_eq!(rt; body_at(&mut host, &mut cache, TO, 2), Ok(body(2, 0, true)));
+    assert_eq!(rt; kick_at(&mut host, &mut cache, TO, 0), Ok(kick(3)));
+    assert_eq!(rt; kick_at(&mut host, &mut cache, TO, 1), Ok(kick(1)));
+    assert_eq!(rt; kick_at(&mut host, &mut cache, TO, 2), Ok(kick(2)));
     let by_id = reorder(&mut host, &mut cache, &mut sorter, &ById, FROM, TO, 3);
     assert_eq!(rt; by_id, Ok(()));
     assert_eq!(rt;
@@ -87,11 +109,11 @@ fn equal_keys_go_by_id(rt: HostRuntime) -> Result<(), Fail> {
     let mut cache = Cache::new(alloc, 4)?;
     let mut sorter = Sorter::new(alloc);
     assert_eq!(rt;
-        push_body(&mut host, &mut cache, FROM, 0, &body(7, 1, false)),
+        push_body(&mut host, &mut cache, FROM, 0, &body(7, 1, false), &kick(7)),
         Ok(())
     );
     assert_eq!(rt;
-        push_body(&mut host, &mut cache, FROM, 1, &body(4, 2, false)),
+        push_body(&mut host, &mut cache, FROM, 1, &body(4, 2, false), &kick(4)),
         Ok(())
     );
     let both = reorder(&mut host, &mut cache, &mut sorter, &ByKey, FROM, TO, 2);
@@ -105,7 +127,7 @@ fn equal_keys_go_by_id(rt: HostRuntime) -> Result<(), Fail> {
         Ok(body(7, 1, false))
     );
     assert_eq!(rt;
-        push_body(&mut host, &mut cache, FROM, 2, &body(4, 3, false)),
+        push_body(&mut host, &mut cache, FROM, 2, &body(4, 3, false), &kick(4)),
         Ok(())
     );
     let page = PageName {
@@ -126,7 +148,7 @@ fn pages_of_bodies_are_sorted(rt: HostRuntime) -> Result<(), Fail> {
     for index in 0..130 {
         let next = body(index, (129 - index) * SIDE, false);
         assert_eq!(rt;
-            push_body(&mut host, &mut cache, FROM, index, &next),
+            push_body(&mut host, &mut cache, FROM, index, &next, &kick(0)),
             Ok(())
         );
     }

@@ -1,53 +1,73 @@
-use Rattle.std.proofs.Common.{◌≡◌, ◌<◌, IsTrue, [], Err, sym, subst, arith, rules}
-use Rattle.std.specs.Prelude.{All}
+use Rattle.std.proofs.Common.{◌≡◌, ◌+◌, ◌<◌, IsTrue, [], Err, refl, sym, subst, ap, ◌∙◌, arith, rules}
+use Rattle.std.specs.Prelude.{All, ◌⊎◌}
 use Rattle.std.specs.Map.{values_of}
 use Rattle.std.proofs.lemmas.List.Elements.{All-nil}
-use Rattle.nb_record.specs.Order.{HoldsBodies}
-use Rattle.nb_cache.proofs.Writing.{writes_both}
-use Rattle.nb_order.specs.declared.order_error.OrderError.TheVariants.{Damaged}
-use Rattle.nb_order.proofs.Calls.{no_file, runs_none, runs_on}
-use Rattle.nb_order.proofs.Sorting.{places_none, places_all}
+use Rattle.nb_host.specs.declared.page_name.PageName.{PageName}
+use Rattle.nb_host.proofs.Callers.{rose_from_less}
+use Rattle.nb_cache.specs.View.{seen}
+use Rattle.nb_cache.proofs.Callers.{no_file, writes_begins, writes_again}
+use Rattle.nb_order.specs.Files.{HasBody, IsDouble}
+use Rattle.nb_order.specs.Places.{AreReadTo}
+use Rattle.nb_order.specs.declared.order_error.OrderError.TheVariants.{Fault, Damaged}
+use Rattle.nb_order.proofs.Sorting.{read_none}
 use Rattle.nb_order.proofs.sorter.places_of.Goals as goal
 
 pub loop-index-init : goal.loop-index-init
 loop-index-init g c = record {
-  runs = runs_none g.H.Host.crashes g.H.Host.tells g.H.Host.contents g.H.Host.faults g.H.Host.refused_says [] c.args.cache.now
-      c.args.host.now c.requires.in_step;
+  writes = writes_begins g.H.Host.meaning [] c.args.cache.now c.args.host.now c.requires.in_step;
+  spared = refl;
   numbers = subst (λ es. All (λ number. number < 0) (values_of es)) (sym c.new-places.ensures.empty) (All-nil (λ number. number < 0));
   count = c.new-places.ensures.len;
-  sorted = λ tell bodies holds. places_none g.O.Order.rank_of bodies c.new-places.result.entries c.new-places.ensures.empty;
+  read = λ tells. read_none g.O.Order.rank_of (seen g.H.Host.meaning c.args.cache.now c.args.host.now c.args.from) c.new-places.result.entries c.new-places.ensures.empty;
 }
 
 pub loop-index-preserved : goal.loop-index-preserved
 loop-index-preserved g c =
     let so_far = c.loop-index.invariant in
-    let told = so_far.runs.writes.told in
     record {
-      runs = runs_on g.H.Host.crashes g.H.Host.tells g.H.Host.contents g.H.Host.faults g.H.Host.refused_says [] c.args.cache.now
-          c.args.host.now c.loop-index.cache c.loop-index.host c.add_place.new.cache c.add_place.new.host so_far.runs
-          c.add_place.ensures.writes c.add_place.ensures.fault.no_less c.add_place.ensures.refused;
+      writes = writes_again so_far.writes c.add_place.ensures.ran.writes;
+      spared = c.add_place.ensures.ran.spared (search rules) ∙ so_far.spared;
       numbers = c.in_ok-add_place.ensures.numbers;
       count = omega (arith, so_far.count, c.in_ok-add_place.ensures.count);
-      sorted = λ tell bodies holds.
-          c.in_ok-add_place.ensures.sorted (subst IsTrue (sym told) tell) bodies
-          (subst (λ file. HoldsBodies file bodies) (sym (so_far.runs.writes.view tell c.args.from (no_file c.args.from))) holds)
-          (so_far.sorted tell bodies holds);
+      read = λ tells.
+          let same = so_far.writes.view tells c.args.from (no_file c.args.from) in
+          subst (λ file. AreReadTo g.O.Order.rank_of file (c.loop-index.index + 1) c.add_place.new.places.entries) same
+          (c.in_ok-add_place.ensures.read tells
+          (subst (λ file. AreReadTo g.O.Order.rank_of file c.loop-index.index c.loop-index.places.entries) (sym same) (so_far.read tells)));
     }
 
-pub returns-in_err-add_place-clause-writes : goal.returns-in_err-add_place-clause-writes
-returns-in_err-add_place-clause-writes g c =
-    writes_both g.H.Host.crashes g.H.Host.tells g.H.Host.contents [] [] c.args.cache.now c.args.host.now c.loop-index.cache
-    c.loop-index.host c.add_place.new.cache c.add_place.new.host c.loop-index.invariant.runs.writes c.add_place.ensures.writes
+pub returns-in_err-add_place-clause-page : goal.returns-in_err-add_place-clause-page
+returns-in_err-add_place-clause-page g c = λ name is.
+    let error : c.add_place.result ≡ Err (Damaged name) = search rules in
+    ap (λ (n : PageName). n.file) (c.add_place.ensures.page name error)
 
-pub returns-in_err-add_place-clause-damaged : goal.returns-in_err-add_place-clause-damaged
-returns-in_err-add_place-clause-damaged g c = λ name is tell bodies holds count different.
+pub returns-in_err-add_place-clause-shown : goal.returns-in_err-add_place-clause-shown
+returns-in_err-add_place-clause-shown g c = λ name is tells.
     let so_far = c.loop-index.invariant in
     let error : c.add_place.result ≡ Err (Damaged name) = search rules in
-    c.add_place.ensures.damaged name error (subst IsTrue (sym so_far.runs.writes.told) tell) bodies
-    (subst (λ file. HoldsBodies file bodies) (sym (so_far.runs.writes.view tell c.args.from (no_file c.args.from))) holds)
-    (omega (arith, count, c.loop-index-test.true)) different (so_far.sorted tell bodies holds)
+    let same = so_far.writes.view tells c.args.from (no_file c.args.from) in
+    record {
+      index = c.loop-index.index;
+      below = c.loop-index-test.true;
+      page = c.add_place.ensures.page name error;
+      cause = subst (λ file. (HasBody file c.loop-index.index → ⊥) ⊎ IsDouble g.O.Order.rank_of file c.loop-index.index) same
+          (c.add_place.ensures.cause name error tells
+          (subst (λ file. AreReadTo g.O.Order.rank_of file c.loop-index.index c.loop-index.places.entries) (sym same) (so_far.read tells)));
+    }
 
-pub returns-clause-sorted : goal.returns-clause-sorted
-returns-clause-sorted g c = λ tell bodies holds count.
-    places_all g.O.Order.rank_of bodies c.loop-index.index c.loop-index.places.entries
-    (omega (arith, count, c.loop-index-test.false)) (c.loop-index.invariant.sorted tell bodies holds)
+pub returns-in_err-add_place-clause-ran : goal.returns-in_err-add_place-clause-ran
+returns-in_err-add_place-clause-ran g c = record {
+  writes = writes_again c.loop-index.invariant.writes c.add_place.ensures.ran.writes;
+  rose = λ faulted.
+      let error : c.add_place.result ≡ Err Fault = search rules in
+      rose_from_less c.loop-index.invariant.writes.count (c.add_place.ensures.ran.rose error);
+  spared = search rules;
+}
+
+pub returns-clause-ran : goal.returns-clause-ran
+returns-clause-ran g c = record { writes = c.loop-index.invariant.writes; rose = λ faulted. absurd (cc); spared = λ _. c.loop-index.invariant.spared }
+
+pub returns-clause-read : goal.returns-clause-read
+returns-clause-read g c = λ tells.
+    let all : c.loop-index.index ≡ c.args.count = omega (arith, c.loop-index-test.false) in
+    subst (λ n. AreReadTo g.O.Order.rank_of (seen g.H.Host.meaning c.args.cache.now c.args.host.now c.args.from) n c.loop-index.places.entries) all (c.loop-index.invariant.read tells)
