@@ -6,4 +6,5 @@ mod Ticks
 mod Starts
 mod Causes
 mod Runs
+mod Saying
 mod Statuses

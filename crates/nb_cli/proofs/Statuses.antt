@@ -5,7 +5,7 @@ use Rattle.nb_model.specs.Leapfrog.{escaped_count}
 use Rattle.nb_host.specs.declared.host.Channel.{Channel}
 use Rattle.nb_host.specs.declared.host.Channel.TheVariants as channels
 use Rattle.nb_host.specs.Image.{Image, Says, SaysPart}
-use Rattle.nb_host.proofs.Steps.{becomes_itself}
+use Rattle.nb_host.proofs.Callers.{becomes_itself}
 use Rattle.nb_format.specs.Lines.{once_line}
 use Rattle.nb_format.specs.Snapshot.{IsSnapshot}
 use Rattle.nb_cli.specs.declared.refusal.Refusal.{Refusal}
@@ -14,7 +14,7 @@ use Rattle.nb_cli.specs.Words.{IsOnce}
 use Rattle.nb_cli.specs.Refusal.{status_of, refusal_line, NeedsNoCause}
 use Rattle.nb_cli.specs.Once.{once_file, Start, ticks_to, list_at, IsReady}
 use Rattle.nb_cli.specs.Done.{BecomesAny}
-use Rattle.nb_cli.specs.Answer.{statuses, Yields, ComesWhere, HasCause, HasCauseOf, IsDone, IsWithin, SaidFrontOf, IsAnswer, IsLineFor}
+use Rattle.nb_cli.specs.Answer.{statuses, Yields, ComesWhere, HasCause, HasCauseOf, IsDone, IsWithin, SaidFrontOf, IsAnswer, MayBeSaid}
 use Rattle.nb_cli.proofs.Causes.{one_target, one_start, no_cause, one_cause}
 use Rattle.nb_cli.proofs.Runs.{within_file}
 
@@ -126,7 +126,7 @@ refused_within {words} {old} {middle} {now} {why} {result} {target} {start} refu
     let R : (ℕ → List ℕ) → Type 0 = λ files. (middle.said channels.Out ≡ old.said channels.Out) ⊎ IsSnapshot (files once_file) (list_at target start) target in
     (subst P (sym spared) within.out, subst Q (sym spared) (subst R (sym refused.said.2.files) within.said_last))
 
-err_run : {words : List (List ℕ)} {old now : Image} → IsRun words old now → now.said channels.Err ≡ old.said channels.Err
+pub err_run : {words : List (List ℕ)} {old now : Image} → IsRun words old now → now.said channels.Err ≡ old.said channels.Err
 err_run (inl none) = ap (λ (image : Image). image.said channels.Err) none
 err_run (inr some) = some.4.err
 
@@ -142,22 +142,26 @@ pub refused_said : {words : List (List ℕ)} {old middle now : Image} {why : Ref
 refused_said {why = why} refused said =
     (why, answer_by refused.cause said.0, said.1.said ∙ ap (λ (before : List ℕ). before ++ refusal_line why) (err_run refused.run))
 
-line_by : {words : List (List ℕ)} {files : ℕ → List ℕ} {why : Refusal} {result : ℕ} → (HasCause words files why ⊎ NeedsNoCause why)
+-- what may be said of a refusal
+pub line_by : {words : List (List ℕ)} {files : ℕ → List ℕ} {why : Refusal} {result : ℕ} → (HasCause words files why ⊎ NeedsNoCause why)
     → ((result ≡ status_of why) ⊎ Yields result) → (Yields (status_of why) → result ≡ status_of why)
-    → IsAnswer words files result why ⊎ (Yields result × HasCause words files why)
+    → MayBeSaid words files result why
 line_by cause (inl same) kept = inl (answer_by cause same)
 line_by (inl cause) (inr yields) kept = inr (yields, cause)
 line_by (inr free) (inr _) kept = inl (answer_by (inr free) (kept (free_yields free)))
 
--- What a refusal has said on Err, perhaps in part.
-pub refused_line : {words : List (List ℕ)} {old middle now : Image} {why : Refusal} {result : ℕ} → WasRefused words old middle now why result
-    → (text : List ℕ) × IsLineFor words old.file result text × SaidFrontOf text (old.said channels.Err) (now.said channels.Err)
-refused_line {why = why} refused =
-    let said = refused.said in (
-      refusal_line why,
-      (why, line_by refused.cause refused.answer refused.kept, refl),
-      (said.0, said.1, said.2.said ∙ ap (λ (before : List ℕ). before ++ take said.0 (refusal_line why)) (err_run refused.run)),
-    )
+-- No refusal's status is 0.
+pub not_done : (why : Refusal) (result : ℕ) → (result ≡ status_of why) ⊎ Yields result → result ≡ 0 → ⊥
+not_done refusal.Words result (inl is) done = omega arith
+not_done (refusal.Params _) result (inl is) done = omega arith
+not_done (refusal.Snapshot _) result (inl is) done = omega arith
+not_done (refusal.TooHeavy _ _) result (inl is) done = omega arith
+not_done (refusal.TickLimit _) result (inl is) done = omega arith
+not_done (refusal.TooMany _) result (inl is) done = omega arith
+not_done refusal.Device result (inl is) done = omega arith
+not_done refusal.NoMemory result (inl is) done = omega arith
+not_done why result (inr (inl is)) done = omega arith
+not_done why result (inr (inr is)) done = omega arith
 
 -- A refusal answers one of the statuses.
 pub status_in : (why : Refusal) (result : ℕ) → (result ≡ status_of why) ⊎ Yields result → Contains statuses result

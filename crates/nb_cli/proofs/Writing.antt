@@ -2,7 +2,7 @@
 use Rattle.std.proofs.Common.{◌≡◌, ℕ, List, [], ◌∷◌, ◌++◌, length, length-append, sym, ap, subst, ◌∙◌, arith, IsTrue, Bool}
 use Rattle.nb_model.specs.declared.body.Body.{Body}
 use Rattle.nb_host.specs.Image.{Image, FileBecomes}
-use Rattle.nb_host.proofs.Steps.{becomes_then}
+use Rattle.nb_host.proofs.Callers.{becomes_then}
 use Rattle.nb_format.specs.declared.snap_writer.Filling.{Filling}
 use Rattle.nb_format.specs.Reader.{last_of}
 use Rattle.nb_format.specs.Writer.{Plan, plan_of, added_count, last_added, IsEmptyFilling, HasOneMore, HasFilled, shut_bytes, IsBegun, StaysShut}

@@ -1,8 +1,10 @@
 -- What the program's one call answers.
-use Rattle.std.specs.Prelude.{◌≡◌, ◌≢◌, ◌⊎◌, ℕ, ◌≤◌, List, [], ◌∷◌, ◌++◌, length, take}
+use Rattle.std.specs.Prelude.{◌≡◌, ◌≢◌, ◌⊎◌, ℕ, ◌+◌, ◌-◌, ◌^◌, ◌≤◌, min, IsTrue, IsOk, Result, Err, List, [], ◌∷◌, ◌++◌, length, take}
 use Rattle.nb_model.specs.Leapfrog.{escaped_count}
 use Rattle.nb_host.specs.declared.host.Channel.TheVariants as channels
+use Rattle.nb_host.specs.Faults.{Rose}
 use Rattle.nb_host.specs.Image.{Image}
+use Rattle.nb_host.specs.Meaning.{HostModel}
 use Rattle.nb_format.specs.Lines.{once_line}
 use Rattle.nb_format.specs.Snapshot.{IsSnapshot}
 use Rattle.nb_cli.specs.declared.refusal.Refusal.{Refusal}
@@ -50,11 +52,33 @@ pub record IsAnswer (words : List (List ℕ)) (files : ℕ → List ℕ) (status
   pub status_is : status ≡ status_of why
   pub cause : HasCause words files why ⊎ Yields status
 
--- What may be said on Err in part: the status's own line, or, at a device fault or want of memory that saying a line met,
--- a front of that line, which is that of the cause that holds.
-abbrev pub IsLineFor : List (List ℕ) → (ℕ → List ℕ) → ℕ → List ℕ → Type 0
-IsLineFor words files status text =
-    (why : Refusal) × (IsAnswer words files status why ⊎ (Yields status × HasCause words files why)) × (text ≡ refusal_line why)
+-- The line that may be said on Err: the status's own, or, at a device fault or want of memory that saying a line met, that
+-- of the cause that holds.
+abbrev pub MayBeSaid : List (List ℕ) → (ℕ → List ℕ) → ℕ → Refusal → Type 0
+MayBeSaid words files status why = IsAnswer words files status why ⊎ (Yields status × HasCause words files why)
+
+-- What a run owes to the counts: that of faults never falls, Device comes only where it rose, Ok only where it didn't, and
+-- no say on Err was refused.
+pub record CountsRun {H : Type 0} (m : HostModel H) (old new : H) (result : Result (Unit {0}) Refusal) : Type 0 where
+  pub count : m.faults old ≤ m.faults new
+  pub rose : result ≡ Err refusal.Device → Rose (m.faults old) (m.faults new)
+  pub spared : IsOk result → m.faults new ≡ m.faults old
+  pub refused : IsTrue m.tells → m.refused_says new channels.Err ≡ m.refused_says old channels.Err
+
+-- the least count of faults behind a run that was refused so
+abbrev pub faults_behind : Refusal → ℕ → ℕ
+faults_behind refusal.Device faults = min (faults + 1) (2 ^ 64 - 1)
+faults_behind why faults = faults
+
+-- How a line was said on Err, before which the count of faults was this: whole, and no say was refused; or one was refused,
+-- and then nothing was said, or a front of that one line where a fault was counted for it.
+abbrev pub WasSaid : {H : Type 0} → HostModel H → List ℕ → ℕ → H → H → Type 0
+WasSaid m line faults old new =
+    (((m.contents new).said channels.Err ≡ (m.contents old).said channels.Err ++ line)
+    × (m.refused_says new channels.Err ≡ m.refused_says old channels.Err))
+    ⊎ (Rose (m.refused_says old channels.Err) (m.refused_says new channels.Err)
+    × (((m.contents new).said channels.Err ≡ (m.contents old).said channels.Err)
+    ⊎ (SaidFrontOf line ((m.contents old).said channels.Err) ((m.contents new).said channels.Err) × Rose faults (m.faults new))))
 
 -- What a run of `once` may have changed by the time that it ends, done or not, and before a refusal of it is said on Err:
 -- its own file, and a front of its line on Out, of which nothing is said before the file is the snapshot.

@@ -2,7 +2,8 @@
 
 ghost use Rattle.std.specs.Prelude.{◌≡◌, ◌≤◌, IsTrue, IfOk, IfErr, OnOk, Err, Some, List, [], length};
 ghost use Rattle.nb_model.specs.declared.body.Body.{Body};
-ghost use Rattle.nb_host.specs.Faults.{Rose};
+ghost use Rattle.nb_host.specs.Crashes.{Stays};
+ghost use Rattle.nb_host.specs.Meaning.{Ran};
 ghost use Rattle.nb_format.specs.Snapshot.{AreStoredBodies, IsSnapshot};
 ghost use Rattle.nb_format.specs.SnapshotRefusal.{snapshot_refusal, IsBySnapshot};
 ghost use Rattle.nb_format.specs.Reader.{count_of, time_of, IsAtStart, HasRead};
@@ -19,18 +20,14 @@ pub const INIT_FILE: u64 = 1;
 /// Reads on to the end of the snapshot, and keeps nothing.
 pub fn skim<H: Host>(host: &mut H, mut reader: SnapReader) -> Result<(), SnapError>
     requires { IsAtStart init_file reader }
-    ensures whole { OnOk result (IsTrue (H.tells host.old)
-        → HasRead reader ((H.contents host.old).file init_file) []
+    ensures whole { OnOk result (IsTrue H.meaning.tells
+        → HasRead reader ((H.meaning.contents host.old).file init_file) []
         → (bodies : List Body) × (length bodies ≡ count_of reader)
-        × IsSnapshot ((H.contents host.old).file init_file) bodies (time_of reader)) }
-    ensures bad { IfErr result (λ error. IsBySnapshot error → IsTrue (H.tells host.old)
-        → HasRead reader ((H.contents host.old).file init_file) []
-        → snapshot_refusal ((H.contents host.old).file init_file) ≡ Some error) }
-    ensures same { H.contents host.new ≡ H.contents host.old }
-    ensures told { H.tells host.new ≡ H.tells host.old }
-    ensures faults { H.faults host.old ≤ H.faults host.new }
-    ensures fault { result ≡ Err SnapError.Fault → Rose (H.faults host.old) (H.faults host.new) }
-    ensures refused { H.refused_says host.new ≡ H.refused_says host.old }
+        × IsSnapshot ((H.meaning.contents host.old).file init_file) bodies (time_of reader)) }
+    ensures bad { IfErr result (λ error. IsBySnapshot error → IsTrue H.meaning.tells
+        → HasRead reader ((H.meaning.contents host.old).file init_file) []
+        → snapshot_refusal ((H.meaning.contents host.old).file init_file) ≡ Some error) }
+    ensures ran { Ran H.meaning SnapError.Fault Stays host.old host.new result }
 {
     while let Some(_) = reader.next(host)? {}
     Ok(())
@@ -45,17 +42,13 @@ pub fn read_bodies<H: Host>(
     requires { IsAtStart init_file reader }
     ensures stored { IfOk result (λ bodies. AreStoredBodies bodies.items) }
     ensures count { IfOk result (λ bodies. length bodies.items ≡ count_of reader) }
-    ensures whole { IfOk result (λ bodies. IsTrue (H.tells host.old)
-        → HasRead reader ((H.contents host.old).file init_file) []
-        → IsSnapshot ((H.contents host.old).file init_file) bodies.items (time_of reader)) }
-    ensures bad { IfErr result (λ error. IsBySnapshot error → IsTrue (H.tells host.old)
-        → HasRead reader ((H.contents host.old).file init_file) []
-        → snapshot_refusal ((H.contents host.old).file init_file) ≡ Some error) }
-    ensures same { H.contents host.new ≡ H.contents host.old }
-    ensures told { H.tells host.new ≡ H.tells host.old }
-    ensures faults { H.faults host.old ≤ H.faults host.new }
-    ensures fault { result ≡ Err SnapError.Fault → Rose (H.faults host.old) (H.faults host.new) }
-    ensures refused { H.refused_says host.new ≡ H.refused_says host.old }
+    ensures whole { IfOk result (λ bodies. IsTrue H.meaning.tells
+        → HasRead reader ((H.meaning.contents host.old).file init_file) []
+        → IsSnapshot ((H.meaning.contents host.old).file init_file) bodies.items (time_of reader)) }
+    ensures bad { IfErr result (λ error. IsBySnapshot error → IsTrue H.meaning.tells
+        → HasRead reader ((H.meaning.contents host.old).file init_file) []
+        → snapshot_refusal ((H.meaning.contents host.old).file init_file) ≡ Some error) }
+    ensures ran { Ran H.meaning SnapError.Fault Stays host.old host.new result }
 {
     let mut bodies = Vec::new(alloc);
     while let Some(body) = reader.next(host)? {

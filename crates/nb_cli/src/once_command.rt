@@ -7,8 +7,8 @@ ghost use Rattle.nb_model.specs.Leapfrog.{escaped_count as count_of_escaped, ste
 ghost use Rattle.nb_model.specs.Legs.{directions_to};
 ghost use Rattle.nb_model.specs.Limits.{most_bodies};
 ghost use Rattle.nb_model.specs.Valid.{AreInRange, IsValidBody, IsValidBodies};
-ghost use Rattle.nb_host.specs.Faults.{Rose, CountsFault};
 ghost use Rattle.nb_host.specs.Image.{FileBecomes};
+ghost use Rattle.nb_host.specs.Meaning.{Over, Counts};
 ghost use Rattle.nb_format.specs.Writer.{IsFinishedAs};
 ghost use Rattle.nb_cli.specs.Refusal.{NeedsNoCause, IsSayable};
 ghost use Rattle.nb_cli.specs.Once.{once_file, most_once_bodies, Start, ticks_to, list_at, start_refusal as refusal_of_start, once_refusal as refusal_of_once, IsReady, IsRefused};
@@ -43,24 +43,20 @@ pub struct Done {
 /// Brings the bodies of the initial snapshot to the time `target` and writes their snapshot. It says nothing.
 pub fn once<H: Host>(alloc: Global, host: &mut H, target: u64) -> Result<Done, Refusal>
     // What each answer says of the files as they were.
-    ensures done { IfOk result (λ done. IsTrue (H.tells host.old)
-        → (start : Start) × IsReady (H.contents host.old).file target start × TellsOf target start done
+    ensures done { IfOk result (λ done. IsTrue H.meaning.tells
+        → (start : Start) × IsReady (H.meaning.contents host.old).file target start × TellsOf target start done
         × FileBecomes once_file (IsFinishedAs (list_at target start) target)
-        (H.contents host.old) (H.contents host.new)) }
-    ensures cause { IfErr result (λ why. IsTrue (H.tells host.old)
-        → NeedsNoCause why ⊎ IsRefused (H.contents host.old).file target why) }
+        (H.meaning.contents host.old) (H.meaning.contents host.new)) }
+    ensures cause { IfErr result (λ why. IsTrue H.meaning.tells
+        → NeedsNoCause why ⊎ IsRefused (H.meaning.contents host.old).file target why) }
     ensures words { result ≢ Err Refusal.Words }
     ensures sayable { IfErr result IsSayable }
-    ensures device { result ≡ Err Refusal.Device → Rose (H.faults host.old) (H.faults host.new) }
 
     // What it leaves: all as it was, where it doesn't come so far as to write.
-    ensures touched { IsTrue (H.tells host.old) → (H.contents host.new ≡ H.contents host.old)
-        ⊎ ((start : Start) × IsReady (H.contents host.old).file target start
-        × FileBecomes once_file BecomesAny (H.contents host.old) (H.contents host.new)) }
-
-    ensures told { H.tells host.new ≡ H.tells host.old }
-    ensures faults { H.faults host.old ≤ H.faults host.new }
-    ensures refused { H.refused_says host.new ≡ H.refused_says host.old }
+    ensures touched { IsTrue H.meaning.tells → (H.meaning.contents host.new ≡ H.meaning.contents host.old)
+        ⊎ ((start : Start) × IsReady (H.meaning.contents host.old).file target start
+        × FileBecomes once_file BecomesAny (H.meaning.contents host.old) (H.meaning.contents host.new)) }
+    ensures counts { Counts H.meaning Refusal.Device host.old host.new result }
 {
     let params = parameters(alloc, host)?;
     let reader = SnapReader::begin(host, INIT_FILE)?;
@@ -180,13 +176,10 @@ fn write_bodies<H: Host>(host: &mut H, bodies: &[Body], time: u64) -> Result<(),
     requires each { All IsValidBody bodies.now }
     requires ids { IsStrictlyIncreasing (map (λ b. b.id) bodies.now) }
     requires count { length bodies.now ≤ most_bodies }
-    ensures written { OnOk result (IsTrue (H.tells host.old)
-        → FileBecomes once_file (IsFinishedAs bodies.now time) (H.contents host.old) (H.contents host.new)) }
-    ensures others { IsTrue (H.tells host.old)
-        → FileBecomes once_file BecomesAny (H.contents host.old) (H.contents host.new) }
-    ensures told { H.tells host.new ≡ H.tells host.old }
-    ensures fault { CountsFault (H.faults host.old) (H.faults host.new) result }
-    ensures refused { H.refused_says host.new ≡ H.refused_says host.old }
+    ensures written { OnOk result
+        (Over H.meaning (FileBecomes once_file (IsFinishedAs bodies.now time)) host.old host.new) }
+    ensures others { Over H.meaning (FileBecomes once_file BecomesAny) host.old host.new }
+    ensures counts { Counts H.meaning HostError.Fault host.old host.new result }
 {
     host.cut(ONCE_FILE, 0)?;
     host.sync()?;

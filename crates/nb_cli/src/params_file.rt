@@ -4,7 +4,8 @@ ghost use Rattle.std.specs.Prelude.{◌≡◌, ◌≢◌, ◌⊎◌, ◌≤◌, 
 ghost use Rattle.nb_format.specs.declared.params_error.ParamsError.{ParamsError};
 ghost use Rattle.nb_format.specs.ParamsText.{params_of};
 ghost use Rattle.nb_model.specs.Valid.{AreInRange};
-ghost use Rattle.nb_host.specs.Faults.{Rose};
+ghost use Rattle.nb_host.specs.Crashes.{Stays};
+ghost use Rattle.nb_host.specs.Meaning.{Ran};
 ghost use Rattle.nb_cli.specs.declared.refusal.Refusal.TheVariants as refusal;
 ghost use Rattle.nb_cli.specs.Once.{params_file, HasNoParams};
 ghost use Rattle.nb_cli.specs.Refusal.{NeedsNoCause, IsSayable};
@@ -21,18 +22,14 @@ const PARAMS_FILE: u64 = 0;
 /// Reads the parameters. It only reads. A text that is too long is refused by its length alone.
 pub fn parameters<H: Host>(alloc: Global, host: &mut H) -> Result<Params, Refusal>
     ensures in_range { IfOk result AreInRange }
-    ensures spelled { IfOk result (λ params. IsTrue (H.tells host.old)
-        → params_of ((H.contents host.old).file params_file) ≡ Ok params) }
-    ensures cause { IfErr result (λ why. IsTrue (H.tells host.old) → NeedsNoCause why
-        ⊎ ((error : ParamsError) × HasNoParams (H.contents host.old).file error
+    ensures spelled { IfOk result (λ params. IsTrue H.meaning.tells
+        → params_of ((H.meaning.contents host.old).file params_file) ≡ Ok params) }
+    ensures cause { IfErr result (λ why. IsTrue H.meaning.tells → NeedsNoCause why
+        ⊎ ((error : ParamsError) × HasNoParams (H.meaning.contents host.old).file error
         × (why ≡ refusal.Params error))) }
     ensures words { result ≢ Err Refusal.Words }
     ensures sayable { IfErr result IsSayable }
-    ensures device { result ≡ Err Refusal.Device → Rose (H.faults host.old) (H.faults host.new) }
-    ensures same { H.contents host.new ≡ H.contents host.old }
-    ensures told { H.tells host.new ≡ H.tells host.old }
-    ensures faults { H.faults host.old ≤ H.faults host.new }
-    ensures refused { H.refused_says host.new ≡ H.refused_says host.old }
+    ensures ran { Ran H.meaning Refusal.Device Stays host.old host.new result }
 {
     let length = host.len(PARAMS_FILE)?;
     if length > MOST_TEXT as u64 {

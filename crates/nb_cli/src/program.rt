@@ -5,13 +5,14 @@ ghost use Rattle.nb_model.specs.Leapfrog.{escaped_count};
 ghost use Rattle.nb_host.specs.declared.host.Channel.TheVariants as channels;
 ghost use Rattle.nb_host.specs.Faults.{Rose};
 ghost use Rattle.nb_host.specs.Image.{Says, SaysPart};
+ghost use Rattle.nb_host.specs.Meaning.{Over};
 ghost use Rattle.nb_format.specs.Lines.{once_line as line_of_once};
 ghost use Rattle.nb_format.specs.Snapshot.{IsSnapshot};
 ghost use Rattle.nb_cli.specs.declared.refusal.Refusal.{Refusal};
 ghost use Rattle.nb_cli.specs.Words.{IsOnce, IsNoCommand};
 ghost use Rattle.nb_cli.specs.Refusal.{status_of, refusal_line, NeedsNoCause, IsSayable};
 ghost use Rattle.nb_cli.specs.Once.{once_file, Start, ticks_to, list_at, IsReady, IsRefused};
-ghost use Rattle.nb_cli.specs.Answer.{statuses, Yields, ComesWhere, HasCause, HasCauseOf, IsDone, IsWithin, SaidFrontOf, IsAnswer, IsLineFor};
+ghost use Rattle.nb_cli.specs.Answer.{statuses, Yields, ComesWhere, HasCause, HasCauseOf, IsDone, IsWithin, SaidFrontOf, IsAnswer, MayBeSaid, CountsRun, WasSaid, faults_behind};
 
 use crate::once_command::once;
 use crate::refusal::Refusal;
@@ -28,52 +29,51 @@ pub fn nbody<H: Host>(alloc: Global, words: &[&str], host: &mut H) -> u8
 
     // When each status comes.
     ensures words { ComesWhere 1 result (IsNoCommand (map (λ w. w.now) words.now)) }
-    ensures causes { (status : ℕ) → IsTrue (H.tells host.old) → status ≢ 0 → (Yields status → ⊥)
+    ensures causes { (status : ℕ) → IsTrue H.meaning.tells → status ≢ 0 → (Yields status → ⊥)
         → ComesWhere status result
-        (HasCauseOf (map (λ w. w.now) words.now) (H.contents host.old).file status) }
-    ensures device { result ≡ 11 → Rose (H.faults host.old) (H.faults host.new) }
+        (HasCauseOf (map (λ w. w.now) words.now) (H.meaning.contents host.old).file status) }
+    ensures device { result ≡ 11 → Rose (H.meaning.faults host.old) (H.meaning.faults host.new) }
+    ensures spared { result ≡ 0 → H.meaning.faults host.new ≡ H.meaning.faults host.old }
     ensures complete { (target : ℕ) (start : Start) → IsOnce (map (λ w. w.now) words.now) target
-        → IsTrue (H.tells host.old) → IsReady (H.contents host.old).file target start
+        → IsTrue H.meaning.tells → IsReady (H.meaning.contents host.old).file target start
         → (result ≡ 0) ⊎ Yields result }
 
     // What `once` does, and what a refusal leaves.
-    ensures done { result ≡ 0 → IsTrue (H.tells host.old)
+    ensures done { result ≡ 0 → IsTrue H.meaning.tells
         → (target : ℕ) × (start : Start) × IsOnce (map (λ w. w.now) words.now) target
-        × IsReady (H.contents host.old).file target start
-        × IsDone target start (H.contents host.old) (H.contents host.new) }
-    ensures files { (number : ℕ) → IsTrue (H.tells host.old) → number ≢ once_file
-        → (H.contents host.new).file number ≡ (H.contents host.old).file number }
-    ensures untouched { (why : Refusal) → IsTrue (H.tells host.old)
-        → HasCause (map (λ w. w.now) words.now) (H.contents host.old).file why
-        → (H.contents host.new).file ≡ (H.contents host.old).file }
+        × IsReady (H.meaning.contents host.old).file target start
+        × IsDone target start (H.meaning.contents host.old) (H.meaning.contents host.new) }
+    ensures files { (number : ℕ) → IsTrue H.meaning.tells → number ≢ once_file
+        → (H.meaning.contents host.new).file number ≡ (H.meaning.contents host.old).file number }
+    ensures untouched { (why : Refusal) → IsTrue H.meaning.tells
+        → HasCause (map (λ w. w.now) words.now) (H.meaning.contents host.old).file why
+        → (H.meaning.contents host.new).file ≡ (H.meaning.contents host.old).file }
 
     // What is said.
     ensures out { (target : ℕ) (start : Start) → IsOnce (map (λ w. w.now) words.now) target
-        → IsTrue (H.tells host.old) → IsReady (H.contents host.old).file target start
+        → IsTrue H.meaning.tells → IsReady (H.meaning.contents host.old).file target start
         → SaidFrontOf (line_of_once target (ticks_to target start) (escaped_count (list_at target start)))
-        ((H.contents host.old).said channels.Out) ((H.contents host.new).said channels.Out) }
+        ((H.meaning.contents host.old).said channels.Out) ((H.meaning.contents host.new).said channels.Out) }
     ensures said_last { (target : ℕ) (start : Start) → IsOnce (map (λ w. w.now) words.now) target
-        → IsTrue (H.tells host.old) → IsReady (H.contents host.old).file target start
-        → ((H.contents host.new).said channels.Out ≡ (H.contents host.old).said channels.Out)
-        ⊎ IsSnapshot ((H.contents host.new).file once_file) (list_at target start) target }
-    ensures silent { (why : Refusal) → IsTrue (H.tells host.old)
-        → HasCause (map (λ w. w.now) words.now) (H.contents host.old).file why
-        → (H.contents host.new).said channels.Out ≡ (H.contents host.old).said channels.Out }
-    ensures err { IsTrue (H.tells host.old) → result ≢ 0
-        → (Rose (H.refused_says host.old channels.Err) (H.refused_says host.new channels.Err) → ⊥)
+        → IsTrue H.meaning.tells → IsReady (H.meaning.contents host.old).file target start
+        → ((H.meaning.contents host.new).said channels.Out ≡ (H.meaning.contents host.old).said channels.Out)
+        ⊎ IsSnapshot ((H.meaning.contents host.new).file once_file) (list_at target start) target }
+    ensures silent { (why : Refusal) → IsTrue H.meaning.tells
+        → HasCause (map (λ w. w.now) words.now) (H.meaning.contents host.old).file why
+        → (H.meaning.contents host.new).said channels.Out ≡ (H.meaning.contents host.old).said channels.Out }
+    ensures err { IsTrue H.meaning.tells → result ≢ 0
+        → (Rose (H.meaning.refused_says host.old channels.Err) (H.meaning.refused_says host.new channels.Err) → ⊥)
         → (why : Refusal)
-        × IsAnswer (map (λ w. w.now) words.now) (H.contents host.old).file result why
-        × ((H.contents host.new).said channels.Err
-        ≡ (H.contents host.old).said channels.Err ++ refusal_line why) }
-    ensures err_part { IsTrue (H.tells host.old) → result ≢ 0
-        → (text : List ℕ) × IsLineFor (map (λ w. w.now) words.now) (H.contents host.old).file result text
-        × SaidFrontOf text
-        ((H.contents host.old).said channels.Err) ((H.contents host.new).said channels.Err) }
-    ensures turned { IsTrue (H.tells host.old) → (Yields result → ⊥)
-        → H.refused_says host.new channels.Err ≡ H.refused_says host.old channels.Err }
+        × IsAnswer (map (λ w. w.now) words.now) (H.meaning.contents host.old).file result why
+        × ((H.meaning.contents host.new).said channels.Err
+        ≡ (H.meaning.contents host.old).said channels.Err ++ refusal_line why) }
+    ensures err_part { IsTrue H.meaning.tells → result ≢ 0
+        → (why : Refusal) × MayBeSaid (map (λ w. w.now) words.now) (H.meaning.contents host.old).file result why
+        × WasSaid H.meaning (refusal_line why) (faults_behind why (H.meaning.faults host.old)) host.old host.new }
+    ensures turned { IsTrue H.meaning.tells → (Yields result → ⊥)
+        → H.meaning.refused_says host.new channels.Err ≡ H.meaning.refused_says host.old channels.Err }
 
-    ensures told { H.tells host.new ≡ H.tells host.old }
-    ensures faults { H.faults host.old ≤ H.faults host.new }
+    ensures faults { H.meaning.faults host.old ≤ H.meaning.faults host.new }
 {
     match run(alloc, words, host) {
         Ok(()) => DONE,
@@ -84,22 +84,18 @@ pub fn nbody<H: Host>(alloc: Global, words: &[&str], host: &mut H) -> u8
 /// Does what the words ask for, and says its line on Out. It says nothing on Err.
 fn run<H: Host>(alloc: Global, words: &[&str], host: &mut H) -> Result<(), Refusal>
     ensures words { (result ≡ Err Refusal.Words) ↔ IsNoCommand (map (λ w. w.now) words.now) }
-    ensures cause { IfErr result (λ why. IsTrue (H.tells host.old)
-        → HasCause (map (λ w. w.now) words.now) (H.contents host.old).file why ⊎ NeedsNoCause why) }
+    ensures cause { IfErr result (λ why. IsTrue H.meaning.tells
+        → HasCause (map (λ w. w.now) words.now) (H.meaning.contents host.old).file why ⊎ NeedsNoCause why) }
     ensures sayable { IfErr result IsSayable }
-    ensures device { result ≡ Err Refusal.Device → Rose (H.faults host.old) (H.faults host.new) }
-    ensures done { OnOk result (IsTrue (H.tells host.old)
+    ensures done { OnOk result (IsTrue H.meaning.tells
         → (target : ℕ) × (start : Start) × IsOnce (map (λ w. w.now) words.now) target
-        × IsReady (H.contents host.old).file target start
-        × IsDone target start (H.contents host.old) (H.contents host.new)) }
-    ensures touched { IsTrue (H.tells host.old) → (H.contents host.new ≡ H.contents host.old)
+        × IsReady (H.meaning.contents host.old).file target start
+        × IsDone target start (H.meaning.contents host.old) (H.meaning.contents host.new)) }
+    ensures touched { IsTrue H.meaning.tells → (H.meaning.contents host.new ≡ H.meaning.contents host.old)
         ⊎ ((target : ℕ) × (start : Start) × IsOnce (map (λ w. w.now) words.now) target
-        × IsReady (H.contents host.old).file target start
-        × IsWithin target start (H.contents host.old) (H.contents host.new)) }
-    ensures told { H.tells host.new ≡ H.tells host.old }
-    ensures faults { H.faults host.old ≤ H.faults host.new }
-    ensures refused { IsTrue (H.tells host.old)
-        → H.refused_says host.new channels.Err ≡ H.refused_says host.old channels.Err }
+        × IsReady (H.meaning.contents host.old).file target start
+        × IsWithin target start (H.meaning.contents host.old) (H.meaning.contents host.new)) }
+    ensures counts { CountsRun H.meaning host.old host.new result }
 {
     match once_target(words) {
         Some(target) => run_once(alloc, host, target),
@@ -110,20 +106,16 @@ fn run<H: Host>(alloc: Global, words: &[&str], host: &mut H) -> Result<(), Refus
 /// Does the command `once`, and says its line on Out.
 fn run_once<H: Host>(alloc: Global, host: &mut H, target: u64) -> Result<(), Refusal>
     ensures words { result ≢ Err Refusal.Words }
-    ensures cause { IfErr result (λ why. IsTrue (H.tells host.old)
-        → NeedsNoCause why ⊎ IsRefused (H.contents host.old).file target why) }
+    ensures cause { IfErr result (λ why. IsTrue H.meaning.tells
+        → NeedsNoCause why ⊎ IsRefused (H.meaning.contents host.old).file target why) }
     ensures sayable { IfErr result IsSayable }
-    ensures device { result ≡ Err Refusal.Device → Rose (H.faults host.old) (H.faults host.new) }
-    ensures done { OnOk result (IsTrue (H.tells host.old)
-        → (start : Start) × IsReady (H.contents host.old).file target start
-        × IsDone target start (H.contents host.old) (H.contents host.new)) }
-    ensures touched { IsTrue (H.tells host.old) → (H.contents host.new ≡ H.contents host.old)
-        ⊎ ((start : Start) × IsReady (H.contents host.old).file target start
-        × IsWithin target start (H.contents host.old) (H.contents host.new)) }
-    ensures told { H.tells host.new ≡ H.tells host.old }
-    ensures faults { H.faults host.old ≤ H.faults host.new }
-    ensures refused { IsTrue (H.tells host.old)
-        → H.refused_says host.new channels.Err ≡ H.refused_says host.old channels.Err }
+    ensures done { OnOk result (IsTrue H.meaning.tells
+        → (start : Start) × IsReady (H.meaning.contents host.old).file target start
+        × IsDone target start (H.meaning.contents host.old) (H.meaning.contents host.new)) }
+    ensures touched { IsTrue H.meaning.tells → (H.meaning.contents host.new ≡ H.meaning.contents host.old)
+        ⊎ ((start : Start) × IsReady (H.meaning.contents host.old).file target start
+        × IsWithin target start (H.meaning.contents host.old) (H.meaning.contents host.new)) }
+    ensures counts { CountsRun H.meaning host.old host.new result }
 {
     host.sync()?;
     let done = once(alloc, host, target)?;
@@ -139,17 +131,17 @@ fn say_refusal<H: Host>(host: &mut H, refusal: Refusal) -> u8
     ensures status { (result ≡ status_of refusal) ⊎ Yields result }
     ensures kept { Yields (status_of refusal) → result ≡ status_of refusal }
     ensures device { result ≡ 11
-        → (refusal ≡ Refusal.Device) ⊎ Rose (H.faults host.old) (H.faults host.new) }
-    ensures said { IsTrue (H.tells host.old)
-        → (Rose (H.refused_says host.old channels.Err) (H.refused_says host.new channels.Err) → ⊥)
+        → (refusal ≡ Refusal.Device) ⊎ Rose (H.meaning.faults host.old) (H.meaning.faults host.new) }
+    ensures said { IsTrue H.meaning.tells
+        → (Rose (H.meaning.refused_says host.old channels.Err) (H.meaning.refused_says host.new channels.Err) → ⊥)
         → (result ≡ status_of refusal)
-        × Says channels.Err (refusal_line refusal) (H.contents host.old) (H.contents host.new) }
-    ensures part { IsTrue (H.tells host.old)
-        → SaysPart channels.Err (refusal_line refusal) (H.contents host.old) (H.contents host.new) }
-    ensures turned { IsTrue (H.tells host.old) → (Yields result → ⊥)
-        → H.refused_says host.new channels.Err ≡ H.refused_says host.old channels.Err }
-    ensures told { H.tells host.new ≡ H.tells host.old }
-    ensures faults { H.faults host.old ≤ H.faults host.new }
+        × Says channels.Err (refusal_line refusal) (H.meaning.contents host.old) (H.meaning.contents host.new) }
+    ensures part { Over H.meaning (SaysPart channels.Err (refusal_line refusal)) host.old host.new }
+    ensures once { IsTrue H.meaning.tells
+        → WasSaid H.meaning (refusal_line refusal) (H.meaning.faults host.old) host.old host.new }
+    ensures turned { IsTrue H.meaning.tells → (Yields result → ⊥)
+        → H.meaning.refused_says host.new channels.Err ≡ H.meaning.refused_says host.old channels.Err }
+    ensures faults { H.meaning.faults host.old ≤ H.meaning.faults host.new }
 {
     let line = refusal.line();
     let Err(error) = host.say(Channel::Err, line.bytes()) else {

@@ -1,17 +1,18 @@
-use Rattle.std.proofs.Common.{◌≡◌, ◌-◌, ◌≤◌, List}
+use Rattle.std.proofs.Common.{◌≡◌, ◌-◌, List}
 use Rattle.nb_model.specs.declared.body.Body.{Body}
+use Rattle.nb_host.specs.Crashes.{Stays}
+use Rattle.nb_host.specs.Meaning.{Leads}
 use Rattle.nb_format.specs.Reader.{count_of, read_count}
 use Rattle.nb_cli.specs.Once.{init_file}
 use Rattle.nb_cli.proofs.Reading.{HasGiven}
 use Rattle.nb_cli.proofs.init_file.skim.Given as goal
 
 abbrev pub invariant-loop : goal.invariant-loop
-invariant-loop g l = let host = g.H.Host in record {
-  given : (bodies : List Body) × HasGiven (host.tells l.initial.host) ((host.contents l.initial.host).file init_file) l.initial.reader l.reader bodies;
-  same : host.contents l.host ≡ host.contents l.initial.host;
-  told : host.tells l.host ≡ host.tells l.initial.host;
-  faults : host.faults l.initial.host ≤ host.faults l.host;
-  refused : host.refused_says l.host ≡ host.refused_says l.initial.host;
+invariant-loop g l = let m = g.H.Host.meaning in record {
+  given : (bodies : List Body) × HasGiven m.tells ((m.contents l.initial.host).file init_file) l.initial.reader l.reader bodies;
+  stays : Leads m Stays l.initial.host l.host;
+  faults : m.faults l.host ≡ m.faults l.initial.host;
+  refused : m.refused_says l.host ≡ m.refused_says l.initial.host;
 }
 
 abbrev pub decreases-loop : goal.decreases-loop

@@ -1,5 +1,6 @@
 use Rattle.std.proofs.Common.{rules, ◌≡◌, ◌⊎◌, inr, Err, refl, sym, ap, subst, ◌∙◌, arith, IsTrue}
 use Rattle.std.specs.Prelude.{replicate}
+use Rattle.nb_host.proofs.Callers.{stays_contents, stays_both}
 use Rattle.nb_model.specs.Leapfrog.{escaped_count, steps}
 use Rattle.nb_format.specs.Reader.{time_of}
 use Rattle.nb_cli.specs.Refusal.{NeedsNoCause, refusal_by_reader}
@@ -12,38 +13,32 @@ use Rattle.nb_cli.proofs.once_command.once.Goals as goal
 pub returns-in_err-skim-clause-cause : goal.returns-in_err-skim-clause-cause
 returns-in_err-skim-clause-cause g c =
     let error = c.in_err-skim.field-0.0 in
-    let files = (g.H.Host.contents c.args.host.now).file in
-    let same = c.in_ok-reader.ensures.same ∙ c.in_ok-params.ensures.same in
+    let files = (g.H.Host.meaning.contents c.args.host.now).file in
+    let same = (stays_contents c.in_ok-reader.ensures.ran.leads) ∙ (stays_contents c.in_ok-params.ensures.ran.leads) in
     let handed_on : c.from_residual-in_err-skim.result ≡ Err (refusal_by_reader error) = search rules in
-    let why : IsTrue (g.H.Host.tells c.args.host.now) → NeedsNoCause (refusal_by_reader error) ⊎ IsRefused files c.args.target (refusal_by_reader error) = λ told.
-    let told_params = subst IsTrue (sym c.in_ok-params.ensures.told) told in
-    let told_reader = subst IsTrue (sym c.in_ok-reader.ensures.told) told_params in
-    let read = header_read c.in_ok-reader.ensures.same (c.in_ok-reader.ensures.header told_params) in
-    refused_by_reader error (c.in_ok-params.ensures.spelled told) (λ by. refused_still same (c.in_err-skim.ensures.bad by told_reader read)) in
+    let why : IsTrue g.H.Host.meaning.tells → NeedsNoCause (refusal_by_reader error) ⊎ IsRefused files c.args.target (refusal_by_reader error) = λ told.
+    let read = header_read (stays_contents c.in_ok-reader.ensures.ran.leads) (c.in_ok-reader.ensures.header told) in
+    refused_by_reader error (c.in_ok-params.ensures.spelled told) (λ by. refused_still same (c.in_err-skim.ensures.bad by told read)) in
     rw handed_on why
 
 pub returns-in_err-bodies-clause-cause : goal.returns-in_err-bodies-clause-cause
 returns-in_err-bodies-clause-cause g c =
     let error = c.in_err-bodies.field-0.0 in
-    let files = (g.H.Host.contents c.args.host.now).file in
-    let same = c.in_ok-reader.ensures.same ∙ c.in_ok-params.ensures.same in
+    let files = (g.H.Host.meaning.contents c.args.host.now).file in
+    let same = (stays_contents c.in_ok-reader.ensures.ran.leads) ∙ (stays_contents c.in_ok-params.ensures.ran.leads) in
     let handed_on : c.from_residual-in_err-bodies.result ≡ Err (refusal_by_reader error) = search rules in
-    let why : IsTrue (g.H.Host.tells c.args.host.now) → NeedsNoCause (refusal_by_reader error) ⊎ IsRefused files c.args.target (refusal_by_reader error) = λ told.
-    let told_params = subst IsTrue (sym c.in_ok-params.ensures.told) told in
-    let told_reader = subst IsTrue (sym c.in_ok-reader.ensures.told) told_params in
-    let read = header_read c.in_ok-reader.ensures.same (c.in_ok-reader.ensures.header told_params) in
-    refused_by_reader error (c.in_ok-params.ensures.spelled told) (λ by. refused_still same (c.in_err-bodies.ensures.bad by told_reader read)) in
+    let why : IsTrue g.H.Host.meaning.tells → NeedsNoCause (refusal_by_reader error) ⊎ IsRefused files c.args.target (refusal_by_reader error) = λ told.
+    let read = header_read (stays_contents c.in_ok-reader.ensures.ran.leads) (c.in_ok-reader.ensures.header told) in
+    refused_by_reader error (c.in_ok-params.ensures.spelled told) (λ by. refused_still same (c.in_err-bodies.ensures.bad by told read)) in
     rw handed_on why
 
 -- Where the start isn't taken.
 
 pub returns-then-count-gt-MOST_ONCE_BODIES-clause-cause : goal.returns-then-count-gt-MOST_ONCE_BODIES-clause-cause
 returns-then-count-gt-MOST_ONCE_BODIES-clause-cause g c told =
-    let same = c.in_ok-reader.ensures.same ∙ c.in_ok-params.ensures.same in
-    let told_params = subst IsTrue (sym c.in_ok-params.ensures.told) told in
-    let told_reader = subst IsTrue (sym c.in_ok-reader.ensures.told) told_params in
-    let read = header_read c.in_ok-reader.ensures.same (c.in_ok-reader.ensures.header told_params) in
-    let whole = c.in_ok-skim.ensures.whole told_reader read in
+    let same = (stays_contents c.in_ok-reader.ensures.ran.leads) ∙ (stays_contents c.in_ok-params.ensures.ran.leads) in
+    let read = header_read (stays_contents c.in_ok-reader.ensures.ran.leads) (c.in_ok-reader.ensures.header told) in
+    let whole = c.in_ok-skim.ensures.whole told read in
     let start : Start = record { params = c.in_ok-params.params; bodies = whole.0; time = time_of c.in_ok-reader.reader } in
     inr (inr (inr (
       start,
@@ -55,57 +50,46 @@ returns-then-count-gt-MOST_ONCE_BODIES-clause-cause g c told =
 
 pub returns-in-Some-clause-cause : goal.returns-in-Some-clause-cause
 returns-in-Some-clause-cause g c told =
-    let same = c.in_ok-reader.ensures.same ∙ c.in_ok-params.ensures.same in
-    let told_params = subst IsTrue (sym c.in_ok-params.ensures.told) told in
-    let told_reader = subst IsTrue (sym c.in_ok-reader.ensures.told) told_params in
-    let read = header_read c.in_ok-reader.ensures.same (c.in_ok-reader.ensures.header told_params) in
+    let same = (stays_contents c.in_ok-reader.ensures.ran.leads) ∙ (stays_contents c.in_ok-params.ensures.ran.leads) in
+    let read = header_read (stays_contents c.in_ok-reader.ensures.ran.leads) (c.in_ok-reader.ensures.header told) in
     let start : Start = record { params = c.in_ok-params.params; bodies = c.deref.result.now; time = c.time-time.result } in
-    let starts : HasStart (g.H.Host.contents c.args.host.now).file start = start_read same (c.in_ok-params.ensures.spelled told) (c.in_ok-bodies.ensures.whole told_reader read) c.deref.ensures.value c.time-time.ensures in
+    let starts : HasStart (g.H.Host.meaning.contents c.args.host.now).file start = start_read same (c.in_ok-params.ensures.spelled told) (c.in_ok-bodies.ensures.whole told read) c.deref.ensures.value c.time-time.ensures in
     inr (inr (inr (start, record { starts = starts; refused = sym c.once_refusal.ensures ∙ c.in-Some.is })))
 
 -- Where it is.
 
 pub returns-in_err-write_bodies-clause-touched : goal.returns-in_err-write_bodies-clause-touched
 returns-in_err-write_bodies-clause-touched g c told =
-    let same = c.in_ok-reader.ensures.same ∙ c.in_ok-params.ensures.same in
-    let told_params = subst IsTrue (sym c.in_ok-params.ensures.told) told in
-    let told_reader = subst IsTrue (sym c.in_ok-reader.ensures.told) told_params in
-    let read = header_read c.in_ok-reader.ensures.same (c.in_ok-reader.ensures.header told_params) in
+    let same = (stays_contents c.in_ok-reader.ensures.ran.leads) ∙ (stays_contents c.in_ok-params.ensures.ran.leads) in
+    let read = header_read (stays_contents c.in_ok-reader.ensures.ran.leads) (c.in_ok-reader.ensures.header told) in
     let start : Start = record { params = c.in_ok-params.params; bodies = c.deref.result.now; time = c.time-time.result } in
-    let starts : HasStart (g.H.Host.contents c.args.host.now).file start = start_read same (c.in_ok-params.ensures.spelled told) (c.in_ok-bodies.ensures.whole told_reader read) c.deref.ensures.value c.time-time.ensures in
-    let ready : IsReady (g.H.Host.contents c.args.host.now).file c.args.target start = record { starts = starts; takes = sym c.once_refusal.ensures ∙ c.in_default.is } in
-    let unchanged = c.in_ok-bodies.ensures.same ∙ same in
-    let told_bodies = subst IsTrue (sym c.in_ok-bodies.ensures.told) told_reader in
-    inr (start, ready, becomes_from unchanged (c.write_bodies.ensures.others told_bodies))
+    let starts : HasStart (g.H.Host.meaning.contents c.args.host.now).file start = start_read same (c.in_ok-params.ensures.spelled told) (c.in_ok-bodies.ensures.whole told read) c.deref.ensures.value c.time-time.ensures in
+    let ready : IsReady (g.H.Host.meaning.contents c.args.host.now).file c.args.target start = record { starts = starts; takes = sym c.once_refusal.ensures ∙ c.in_default.is } in
+    let unchanged = (stays_contents c.in_ok-bodies.ensures.ran.leads) ∙ same in
+    inr (start, ready, becomes_from unchanged (c.write_bodies.ensures.others told))
 
 pub returns-clause-touched : goal.returns-clause-touched
 returns-clause-touched g c told =
-    let same = c.in_ok-reader.ensures.same ∙ c.in_ok-params.ensures.same in
-    let told_params = subst IsTrue (sym c.in_ok-params.ensures.told) told in
-    let told_reader = subst IsTrue (sym c.in_ok-reader.ensures.told) told_params in
-    let read = header_read c.in_ok-reader.ensures.same (c.in_ok-reader.ensures.header told_params) in
+    let same = (stays_contents c.in_ok-reader.ensures.ran.leads) ∙ (stays_contents c.in_ok-params.ensures.ran.leads) in
+    let read = header_read (stays_contents c.in_ok-reader.ensures.ran.leads) (c.in_ok-reader.ensures.header told) in
     let start : Start = record { params = c.in_ok-params.params; bodies = c.deref.result.now; time = c.time-time.result } in
-    let starts : HasStart (g.H.Host.contents c.args.host.now).file start = start_read same (c.in_ok-params.ensures.spelled told) (c.in_ok-bodies.ensures.whole told_reader read) c.deref.ensures.value c.time-time.ensures in
-    let ready : IsReady (g.H.Host.contents c.args.host.now).file c.args.target start = record { starts = starts; takes = sym c.once_refusal.ensures ∙ c.in_default.is } in
-    let unchanged = c.in_ok-bodies.ensures.same ∙ same in
-    let told_bodies = subst IsTrue (sym c.in_ok-bodies.ensures.told) told_reader in
-    inr (start, ready, becomes_from unchanged (c.write_bodies.ensures.others told_bodies))
+    let starts : HasStart (g.H.Host.meaning.contents c.args.host.now).file start = start_read same (c.in_ok-params.ensures.spelled told) (c.in_ok-bodies.ensures.whole told read) c.deref.ensures.value c.time-time.ensures in
+    let ready : IsReady (g.H.Host.meaning.contents c.args.host.now).file c.args.target start = record { starts = starts; takes = sym c.once_refusal.ensures ∙ c.in_default.is } in
+    let unchanged = (stays_contents c.in_ok-bodies.ensures.ran.leads) ∙ same in
+    inr (start, ready, becomes_from unchanged (c.write_bodies.ensures.others told))
 
 pub returns-clause-done : goal.returns-clause-done
 returns-clause-done g c told =
-    let same = c.in_ok-reader.ensures.same ∙ c.in_ok-params.ensures.same in
-    let told_params = subst IsTrue (sym c.in_ok-params.ensures.told) told in
-    let told_reader = subst IsTrue (sym c.in_ok-reader.ensures.told) told_params in
-    let read = header_read c.in_ok-reader.ensures.same (c.in_ok-reader.ensures.header told_params) in
+    let same = (stays_contents c.in_ok-reader.ensures.ran.leads) ∙ (stays_contents c.in_ok-params.ensures.ran.leads) in
+    let read = header_read (stays_contents c.in_ok-reader.ensures.ran.leads) (c.in_ok-reader.ensures.header told) in
     let start : Start = record { params = c.in_ok-params.params; bodies = c.deref.result.now; time = c.time-time.result } in
-    let starts : HasStart (g.H.Host.contents c.args.host.now).file start = start_read same (c.in_ok-params.ensures.spelled told) (c.in_ok-bodies.ensures.whole told_reader read) c.deref.ensures.value c.time-time.ensures in
-    let ready : IsReady (g.H.Host.contents c.args.host.now).file c.args.target start = record { starts = starts; takes = sym c.once_refusal.ensures ∙ c.in_default.is } in
-    let unchanged = c.in_ok-bodies.ensures.same ∙ same in
-    let told_bodies = subst IsTrue (sym c.in_ok-bodies.ensures.told) told_reader in
+    let starts : HasStart (g.H.Host.meaning.contents c.args.host.now).file start = start_read same (c.in_ok-params.ensures.spelled told) (c.in_ok-bodies.ensures.whole told read) c.deref.ensures.value c.time-time.ensures in
+    let ready : IsReady (g.H.Host.meaning.contents c.args.host.now).file c.args.target start = record { starts = starts; takes = sym c.once_refusal.ensures ∙ c.in_default.is } in
+    let unchanged = (stays_contents c.in_ok-bodies.ensures.ran.leads) ∙ same in
     let listed : c.deref-3.result.now ≡ list_at c.args.target start =
     c.deref-3.ensures.value ∙ list_at-taken c.in_ok-params.params c.deref.result.now c.time-time.result c.args.target c.leg_to-leg.ensures.ways (c.in_ok-advance.ensures.taken ∙ ap (steps c.in_ok-params.params (replicate c.leg_to-leg.result.ticks c.leg_to-leg.result.way)) (sym c.deref.ensures.value)) in (
       start,
       ready,
       record { time = refl; ticks = c.leg_to-leg.ensures.ticks; gone = c.escaped_count-gone.ensures ∙ ap escaped_count (c.deref-2.ensures.value ∙ sym c.deref-3.ensures.value ∙ listed) },
-      written_list unchanged listed (c.in_ok-write_bodies.ensures.written told_bodies),
+      written_list unchanged listed (c.in_ok-write_bodies.ensures.written told),
     )

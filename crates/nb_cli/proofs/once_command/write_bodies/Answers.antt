@@ -1,4 +1,4 @@
-use Rattle.std.proofs.Common.{◌<◌, ℕ, List, length, get_or, false, pos, arith, subst, sym, ◌∙◌, Option, IsTrue}
+use Rattle.std.proofs.Common.{◌<◌, ℕ, List, length, get_or, false, pos, arith, rules, subst, sym, ◌∙◌, Option, IsTrue}
 use Rattle.std.specs.Prelude.{IfSome}
 use Rattle.std.proofs.lemmas.List.{take_more}
 use Rattle.nb_model.specs.declared.body.Body.{Body}
@@ -15,12 +15,11 @@ add-requires-clause-rises g c id is =
 pub loop-body-preserved : goal.loop-body-preserved
 loop-body-preserved g c =
     let kept = c.loop-body.invariant in
-    let more = HasTaken-more kept.taken c.in_ok-filling-2.ensures.added (λ told. c.add.ensures.shut (subst IsTrue (sym kept.told) told)) (λ told. c.in_ok-filling-2.ensures.filled _ (subst IsTrue (sym kept.told) told)) in
+    let more = HasTaken-more kept.taken c.in_ok-filling-2.ensures.added c.add.ensures.shut (λ told. c.in_ok-filling-2.ensures.filled _ told) in
     record {
       taken =
-          let P : List Body → Type 0 = λ bodies. HasTaken (g.H.Host.tells c.args.host.now) (g.H.Host.contents c.args.host.now) (g.H.Host.contents c.add.new.host) (length c.args.bodies.now) c.args.time c.in_ok-filling-2.filling bodies in
+          let P : List Body → Type 0 = λ bodies. HasTaken g.H.Host.meaning.tells (g.H.Host.meaning.contents c.args.host.now) (g.H.Host.meaning.contents c.add.new.host) (length c.args.bodies.now) c.args.time c.in_ok-filling-2.filling bodies in
           subst P (sym (take_more c.args.bodies.now c.loop-body.body-index _ c.loop-body-test.true)) more;
-      told = c.add.ensures.told ∙ kept.told;
-      faults = omega arith;
-      refused = c.add.ensures.refused ∙ kept.refused;
+      faults = c.add.ensures.counts.spared (search rules) ∙ kept.faults;
+      refused = c.add.ensures.counts.refused ∙ kept.refused;
     }

@@ -1,7 +1,10 @@
-use Rattle.std.proofs.Common.{◌∙◌, inr, ℕ, List, map, Bor, IsTrue, subst, sym}
+use Rattle.std.proofs.Common.{◌∙◌, ap, Err, inr, ℕ, List, map, Bor, IsTrue, subst, sym}
 use Rattle.nb_host.specs.declared.host.Channel.TheVariants as channels
 use Rattle.nb_host.specs.Faults.{Rose}
-use Rattle.nb_cli.proofs.Statuses.{WasRefused, within_run, finished_no_cause, finished_where, refused_where, refused_complete, refused_untouched, refused_within, refused_said, refused_line, status_in, words_where}
+use Rattle.nb_cli.proofs.Statuses.{WasRefused, within_run, finished_no_cause, finished_where, refused_where, refused_complete, refused_untouched, refused_within, refused_said, line_by, err_run, not_done, status_in, words_where}
+use Rattle.nb_cli.proofs.Saying.{was_said-after, faults_behind-run}
+use Rattle.nb_cli.specs.Refusal.{refusal_line}
+use Rattle.nb_cli.specs.Answer.{faults_behind}
 use Rattle.nb_cli.proofs.program.nbody.Given.{Over}
 use Rattle.nb_cli.proofs.program.nbody.Goals as goal
 
@@ -24,15 +27,15 @@ returns-in-Ok-clause-silent g c why told holds = absurd (finished_no_cause (c.in
 
 -- Where the run is refused.
 
-refused : (g : Over) (c : goal.After-say_refusal g) → IsTrue (g.H.Host.tells c.args.host.now)
-    → WasRefused (map (λ (w : Bor (List ℕ)). w.now) c.args.words.now) (g.H.Host.contents c.args.host.now) (g.H.Host.contents c.run.new.host)
-    (g.H.Host.contents c.say_refusal.new.host) c.in-Err.refusal c.say_refusal.result
+refused : (g : Over) (c : goal.After-say_refusal g) → IsTrue g.H.Host.meaning.tells
+    → WasRefused (map (λ (w : Bor (List ℕ)). w.now) c.args.words.now) (g.H.Host.meaning.contents c.args.host.now) (g.H.Host.meaning.contents c.run.new.host)
+    (g.H.Host.meaning.contents c.say_refusal.new.host) c.in-Err.refusal c.say_refusal.result
 refused g c told = record {
   cause = c.in-Err.ensures.cause told;
   run = c.run.ensures.touched told;
   answer = c.say_refusal.ensures.status;
   kept = c.say_refusal.ensures.kept;
-  said = c.say_refusal.ensures.part (subst IsTrue (sym c.run.ensures.told) told);
+  said = c.say_refusal.ensures.part told;
 }
 
 pub returns-in-Err-clause-status : goal.returns-in-Err-clause-status
@@ -61,13 +64,26 @@ returns-in-Err-clause-silent g c why told holds = (refused_untouched (refused g 
 
 pub returns-in-Err-clause-err : goal.returns-in-Err-clause-err
 returns-in-Err-clause-err g c told other never =
-    let P : ℕ → Type 0 = λ count. Rose count (g.H.Host.refused_says c.say_refusal.new.host channels.Err) in
-    let unrefused : Rose (g.H.Host.refused_says c.run.new.host channels.Err) (g.H.Host.refused_says c.say_refusal.new.host channels.Err) → ⊥ = λ rose. never (subst P (c.run.ensures.refused told) rose) in
-    refused_said (refused g c told) (c.say_refusal.ensures.said (subst IsTrue (sym c.run.ensures.told) told) unrefused)
+    let P : ℕ → Type 0 = λ count. Rose count (g.H.Host.meaning.refused_says c.say_refusal.new.host channels.Err) in
+    let unrefused : Rose (g.H.Host.meaning.refused_says c.run.new.host channels.Err) (g.H.Host.meaning.refused_says c.say_refusal.new.host channels.Err) → ⊥ = λ rose. never (subst P (c.run.ensures.counts.refused told) rose) in
+    refused_said (refused g c told) (c.say_refusal.ensures.said told unrefused)
 
 pub returns-in-Err-clause-err_part : goal.returns-in-Err-clause-err_part
-returns-in-Err-clause-err_part g c told other = refused_line (refused g c told)
+returns-in-Err-clause-err_part g c told other =
+    let m = g.H.Host.meaning in
+    let why = c.in-Err.refusal in
+    let counts = c.run.ensures.counts in (
+      why,
+      line_by (c.in-Err.ensures.cause told) c.say_refusal.ensures.status c.say_refusal.ensures.kept,
+      was_said-after m (refusal_line why) (faults_behind why (m.faults c.args.host.now)) c.args.host.now c.run.new.host c.say_refusal.new.host
+      (err_run (c.run.ensures.touched told)) (counts.refused told)
+      (faults_behind-run why (m.faults c.args.host.now) (m.faults c.run.new.host) counts.count (λ is. counts.rose (c.in-Err.is ∙ ap Err is)))
+      (c.say_refusal.ensures.once told),
+    )
+
+pub returns-in-Err-clause-spared : goal.returns-in-Err-clause-spared
+returns-in-Err-clause-spared g c done = absurd (not_done c.in-Err.refusal c.say_refusal.result c.say_refusal.ensures.status done)
 
 pub returns-in-Err-clause-turned : goal.returns-in-Err-clause-turned
 returns-in-Err-clause-turned g c told steady =
-    c.say_refusal.ensures.turned (subst IsTrue (sym c.run.ensures.told) told) steady ∙ c.run.ensures.refused told
+    c.say_refusal.ensures.turned told steady ∙ c.run.ensures.counts.refused told
