@@ -7,7 +7,7 @@ use Rattle.std.proofs.lemmas.List.Elements.{All-nil, All-push}
 use Rattle.std.proofs.lemmas.List.Sums.{fold_push}
 use Rattle.nb_model.specs.declared.body.At.{At}
 use Rattle.nb_model.specs.Octree.{half_at, octant_at}
-use Rattle.nb_model.proofs.Octants.{octant_at-lt}
+use Rattle.nb_model.proofs.Facts.{octant_at-lt}
 use Rattle.nb_key.specs.Spread.{spread_of}
 use Rattle.nb_key.specs.Morton.{octants_to, key_at, morton_key, AreOctants, IsKeyAt}
 use Rattle.nb_key.proofs.Spreads.{spread_bound}

@@ -7,7 +7,7 @@ use Rattle.std.proofs.lemmas.Nat.{pow-add, mul-le, one_shl}
 use Rattle.nb_model.specs.declared.body.At.{At}
 use Rattle.nb_model.specs.Valid.{IsInBox}
 use Rattle.nb_model.specs.Octree.{half_at, octant_at, is_same_cell}
-use Rattle.nb_model.proofs.Octants.{half_at-lt, octant_at-lt}
+use Rattle.nb_model.proofs.Facts.{half_at-lt, octant_at-lt}
 use Rattle.nb_key.specs.Morton.{octants_to, key_at, morton_key, IsKeyAt, first_key, last_key}
 use Rattle.nb_key.proofs.Spreads.{eight_pow}
 use Rattle.nb_key.proofs.Levels.{eight_pos}

@@ -1,15 +1,15 @@
 pub mod Facts
 mod Roots
 mod Quotients
-pub mod Vectors
+mod Vectors
 mod Wrapping
 mod Pulls
-pub mod Sums
-pub mod Octants
-pub mod Cells
+mod Sums
+mod Octants
+mod Cells
 mod Forces
 mod Drifts
-pub mod Steps
-pub mod Accelerated
+mod Steps
+mod Accelerated
 mod Undone
 mod OpenBox

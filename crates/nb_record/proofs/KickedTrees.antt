@@ -13,8 +13,8 @@ use Rattle.nb_model.specs.Limits.{deepest_level}
 use Rattle.nb_model.specs.Octree.{octant_at, in_octant, total_mass, centre_of_mass}
 use Rattle.nb_model.specs.Gravity.{octants}
 use Rattle.nb_model.specs.Leapfrog.{in_box, half_kick, accelerate, kick}
-use Rattle.nb_model.proofs.Sums.{sum_by_agree, sum_by-map, filter-map}
-use Rattle.nb_model.proofs.Accelerated.{accelerated}
+use Rattle.nb_model.proofs.Facts.{sum_by_agree, sum_by-map, filter-map}
+use Rattle.nb_model.proofs.Facts.{accelerated}
 use Rattle.nb_key.specs.Morton.{key_of, morton_key}
 use Rattle.nb_record.specs.Cells.{first_body, kids_of, cell_for, cells_to_depth, tree_cells}
 use Rattle.nb_record.proofs.TreeCells.{cells-nil, cells-deepest, cells-leaf, cells-divided, octant_cells}

@@ -5,7 +5,7 @@ use Rattle.std.proofs.Math.Nat.{zero-div}
 use Rattle.std.proofs.lemmas.Bool.{cond-true, eq-eqb, lt-ltb}
 use Rattle.nb_model.specs.declared.body.Body.{Body}
 use Rattle.nb_model.specs.Octree.{octant_at, in_octant}
-use Rattle.nb_model.proofs.Octants.{octant_at-lt}
+use Rattle.nb_model.proofs.Facts.{octant_at-lt}
 use Rattle.nb_record.specs.Cells.{kids_of}
 
 -- ---- a sum of eight bits

@@ -10,7 +10,7 @@ use Rattle.nb_model.specs.Limits.{deepest_level}
 use Rattle.nb_model.specs.Octree.{octant_at, in_octant, total_mass, centre_of_mass}
 use Rattle.nb_model.specs.Gravity.{octants}
 use Rattle.nb_model.specs.Leapfrog.{in_box}
-use Rattle.nb_model.proofs.Sums.{sum_by_agree}
+use Rattle.nb_model.proofs.Facts.{sum_by_agree}
 use Rattle.nb_key.specs.Morton.{key_of, morton_key}
 use Rattle.nb_record.specs.declared.tree.Tree.{Tree}
 use Rattle.nb_record.specs.Order.{by_key, sorted_by, IsSortedByRank, HoldsBodies}

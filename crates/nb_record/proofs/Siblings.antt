@@ -12,7 +12,7 @@ use Rattle.nb_model.specs.declared.body.At.{At}
 use Rattle.nb_model.specs.declared.body.Body.{Body}
 use Rattle.nb_model.specs.Octree.{octant_at, in_octant}
 use Rattle.nb_model.specs.Gravity.{octants}
-use Rattle.nb_model.proofs.Octants.{octant_at-lt}
+use Rattle.nb_model.proofs.Facts.{octant_at-lt}
 use Rattle.nb_key.specs.Morton.{octants_to, key_at, IsKeyAt, first_key}
 use Rattle.nb_key.proofs.Levels.{child_at}
 use Rattle.nb_key.proofs.Paths.{key_step}

@@ -10,8 +10,8 @@ use Rattle.nb_model.specs.Limits.{deepest_level}
 use Rattle.nb_model.specs.Octree.{in_octant}
 use Rattle.nb_model.specs.Gravity.{octants}
 use Rattle.nb_model.specs.Leapfrog.{in_box}
-use Rattle.nb_model.proofs.Sums.{sum_by_agree}
-use Rattle.nb_model.proofs.Octants.{sum_by-octants}
+use Rattle.nb_model.proofs.Facts.{sum_by_agree}
+use Rattle.nb_model.proofs.Facts.{sum_by-octants}
 use Rattle.nb_record.specs.Cells.{cells_to_depth, tree_cells}
 use Rattle.nb_record.proofs.TreeCells.{cells-nil, cells-deepest, cells-leaf, cells-divided}
 use Rattle.nb_record.proofs.TreeFound.{first_cell}

@@ -9,7 +9,7 @@ use Rattle.nb_model.specs.Valid.{IsInBox}
 use Rattle.nb_model.specs.Vector.{vector_sum}
 use Rattle.nb_model.specs.Octree.{in_octant, centre_of_mass}
 use Rattle.nb_model.specs.Gravity.{pull, is_far, cell_holds, is_accepted, direct_sum, octants, force_on}
-use Rattle.nb_model.proofs.Cells.{force_on-accepted, force_on-small_leaf, force_on-deepest_leaf, force_on-divided}
+use Rattle.nb_model.proofs.Facts.{force_on-accepted, force_on-small_leaf, force_on-deepest_leaf, force_on-divided}
 use Rattle.nb_key.specs.Morton.{key_at}
 use Rattle.nb_key.proofs.Ranges.{same_cell}
 use Rattle.nb_record.specs.declared.cell.Cell.{Cell}

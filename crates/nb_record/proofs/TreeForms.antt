@@ -11,7 +11,7 @@ use Rattle.nb_model.specs.declared.params.Params.{Params}
 use Rattle.nb_model.specs.Octree.{total_mass, centre_of_mass}
 use Rattle.nb_model.specs.Valid.{IsInBox, IsValidBody}
 use Rattle.nb_model.specs.Leapfrog.{in_box}
-use Rattle.nb_model.proofs.Sums.{length-filter-le}
+use Rattle.nb_model.proofs.Facts.{length-filter-le}
 use Rattle.nb_key.specs.Morton.{key_at, IsKeyAt}
 use Rattle.nb_key.proofs.Levels.{eight_mono}
 use Rattle.nb_record.specs.declared.cell.Cell.{Cell}

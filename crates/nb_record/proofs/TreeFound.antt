@@ -10,7 +10,7 @@ use Rattle.nb_model.specs.declared.params.Params.{Params}
 use Rattle.nb_model.specs.Limits.{deepest_level}
 use Rattle.nb_model.specs.Octree.{octant_at, in_octant, total_mass, centre_of_mass}
 use Rattle.nb_model.specs.Gravity.{octants}
-use Rattle.nb_model.proofs.Octants.{octant_at-lt, length-in_octant-le}
+use Rattle.nb_model.proofs.Facts.{octant_at-lt, length-in_octant-le}
 use Rattle.nb_key.specs.Morton.{octants_to, key_of, key_at, IsKeyAt}
 use Rattle.nb_key.proofs.Levels.{one_level}
 use Rattle.nb_key.proofs.Paths.{length-octants_to}

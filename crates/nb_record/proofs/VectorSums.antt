@@ -4,7 +4,7 @@ use Rattle.std.specs.Prelude.{fold, IsPermutation}
 use Rattle.std.proofs.lemmas.Int.{ints}
 use Rattle.nb_model.specs.declared.body.V3.{V3}
 use Rattle.nb_model.specs.Vector.{zero_vector, plus, vector_sum}
-use Rattle.nb_model.proofs.Vectors.{same_vector}
+use Rattle.nb_model.proofs.Facts.{same_vector}
 use Rattle.nb_record.proofs.Moves.{permutation_keeps}
 
 -- ---- one axis
