@@ -9,7 +9,7 @@ ghost use Rattle.nb_model.specs.Valid.{AreInRange, IsInBox, IsBelow, IsValidBody
 use crate::cell::mass_and_centre;
 use crate::leapfrog::kick;
 use crate::{opens, plain_tick, root, trunc_div};
-use nb_model::{At, Body, Params, V3, Way};
+use nb_model::{At, Body, Edge, Params, V3, Way};
 use std::alloc::Global;
 use std::process::Abort;
 use std::test::Fail;
@@ -34,6 +34,7 @@ fn params(grav: u64, theta_num: u64, theta_den: u64, leaf: u64) -> Params
         soft: 1,
         leaf,
         every: 100,
+        edge: Edge::Open,
     }
 }
 

@@ -1,7 +1,7 @@
 -- Where a drift brings a position, and that the opposite drift brings it back.
-use Rattle.std.proofs.Common.{◌≡◌, ℕ, ◌<◌, Bool, true, false, cond, ◌&&◌, Option, None, Some, ℤ, pos, negsuc, ◌+ℤ◌, ◌-ℤ◌, neg_ℤ, refl, ap, sym, ◌∙◌, arith}
+use Rattle.std.proofs.Common.{◌≡◌, ℕ, ◌<◌, Bool, true, false, cond, ◌&&◌, Option, None, Some, ℤ, pos, negsuc, ◌+ℤ◌, neg_ℤ, refl, ap, ◌∙◌, arith}
 use Rattle.std.specs.Prelude.{int_le, int_lt, nat_lt, unsigned_abs}
-use Rattle.std.proofs.lemmas.Bool.{cond_both, cond-true, cond-false, and_parts, ltb-true, lt-ltb, le-leb, false≢true, cases_cond}
+use Rattle.std.proofs.lemmas.Bool.{cond_both, cond-true, and_parts, ltb-true, lt-ltb, le-leb, false≢true}
 use Rattle.std.proofs.lemmas.Int.{ints}
 use Rattle.nb_model.specs.declared.body.At.{At}
 use Rattle.nb_model.specs.declared.body.V3.{V3}
@@ -17,7 +17,7 @@ use Rattle.nb_model.specs.Leapfrog.{is_coordinate, is_position, vector_of, posit
 use Rattle.nb_model.specs.Laws.{opposite}
 use Rattle.nb_model.specs.Valid.{IsInBox, IsBelow}
 use Rattle.nb_model.proofs.Vectors.{same_vector, same_position}
-use Rattle.nb_model.proofs.Wrapping.{remainder_of, remainder_of-lt, remainder_of-undone}
+use Rattle.nb_model.proofs.Wrapping.{remainder_of-lt, remainder_of-undone}
 
 -- ---- the two tests
 

@@ -1,14 +1,15 @@
-pub mod Roots
-pub mod Quotients
+pub mod Facts
+mod Roots
+mod Quotients
 pub mod Vectors
-pub mod Wrapping
-pub mod Pulls
+mod Wrapping
+mod Pulls
 pub mod Sums
 pub mod Octants
 pub mod Cells
-pub mod Forces
-pub mod Drifts
+mod Forces
+mod Drifts
 pub mod Steps
 pub mod Accelerated
-pub mod Undone
+mod Undone
 mod OpenBox

@@ -1,7 +1,7 @@
 -- What a half kick and a drift leave as it was, and that a tick keeps a list valid.
-use Rattle.std.proofs.Common.{◌≡◌, ℕ, ◌+◌, ◌*◌, ◌<◌, ◌≤◌, true, false, cond, not, ◌&&◌, List, length, map, ℤ, pos, negsuc, refl, ◌∙◌, arith}
-use Rattle.std.specs.Prelude.{All, int_le, int_lt, unsigned_abs}
-use Rattle.std.proofs.lemmas.Bool.{cond_both, and_parts, both_ways, ltb-true, false≢true}
+use Rattle.std.proofs.Common.{◌≡◌, ℕ, ◌+◌, ◌*◌, ◌<◌, ◌≤◌, cond, not, List, length, map, ℤ, refl, ◌∙◌, arith}
+use Rattle.std.specs.Prelude.{All, unsigned_abs}
+use Rattle.std.proofs.lemmas.Bool.{cond_both, both_ways}
 use Rattle.std.proofs.lemmas.Int.{ints}
 use Rattle.std.proofs.lemmas.List.{length-map}
 use Rattle.std.proofs.lemmas.List.Elements.{All-map, All-weaker}
@@ -17,7 +17,7 @@ use Rattle.nb_model.specs.Vector.{zero_vector}
 use Rattle.nb_model.specs.Octree.{total_mass}
 use Rattle.nb_model.specs.Gravity.{force_on}
 use Rattle.nb_model.specs.Leapfrog.{in_box, escaped_count, half_kick, changed_along, changed, accelerate, kick, drifted, drift_of, drift_body, drift, step}
-use Rattle.nb_model.specs.Valid.{IsInBox, IsBelow, IsValidBody, IsKickedBody, IsDriftedBody, IsValidBodies}
+use Rattle.nb_model.specs.Valid.{IsBelow, IsValidBody, IsKickedBody, IsDriftedBody, IsValidBodies}
 use Rattle.nb_model.specs.Laws.{BodyStaysValid}
 use Rattle.nb_model.proofs.Sums.{map_agree, sum_by_agree, sum_by-map, sum_by-filter-le, length-filter-le}
 use Rattle.nb_model.proofs.Vectors.{IsAtMost, IsAtMost-zero, IsAtMost-more, IsBelow-from_most}

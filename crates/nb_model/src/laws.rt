@@ -26,7 +26,7 @@ pub fn law_half_kick()
 {}
 
 /// A half kick, a drift and a half kick make a valid body of a valid body.
-pub fn law_kicked()
+pub fn law_body()
     ensures { BodyStaysValid }
 {}
 

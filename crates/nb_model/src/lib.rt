@@ -16,7 +16,7 @@ mod way;
 pub use body::{At, Body, V3};
 pub use edge::Edge;
 pub use laws::{
-    law_back, law_force_on, law_half_kick, law_integer_root, law_kicked, law_limits, law_open_box,
+    law_back, law_body, law_force_on, law_half_kick, law_integer_root, law_limits, law_open_box,
     law_step, law_wrapped_box,
 };
 pub use limits::{
