@@ -11,7 +11,7 @@ use Rattle.nb_model.specs.Valid.{IsInBox}
 use Rattle.nb_model.specs.Vector.{zero_vector}
 use Rattle.nb_model.specs.Leapfrog.{half_kick, accelerate, kick, drift_of, drift_body, drift, step}
 use Rattle.nb_model.proofs.Sums.{map_agree}
-use Rattle.nb_model.proofs.Drifts.{drift_body_cases, is_drifted}
+use Rattle.nb_model.proofs.Facts.{drift_body_cases, is_drifted}
 use Rattle.nb_model.proofs.Steps.{ids-kick, ids-drift}
 use Rattle.nb_record.specs.Order.{by_key, precedes, insert_by, sorted_by, HaveDifferentIds}
 use Rattle.nb_record.proofs.Sorting.{either, permuted, insert_here, insert_behind, insert_nil, sorted_cons, sorted_nil}
