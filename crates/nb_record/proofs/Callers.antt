@@ -14,3 +14,19 @@ pub use Rattle.nb_record.proofs.Orders.{front, in_box_sorted, ranks_rise, same_o
 -- tables of cells
 pub use Rattle.nb_record.proofs.Chains.{LeadsOn, leads_on, chain_ends, chain_follows}
 pub use Rattle.nb_record.proofs.Lookups.{cells_end, chain_holds}
+-- lists in Morton order, and what is chosen from them
+pub use Rattle.nb_record.proofs.Sorting.{either, Ordered, all_before, neighbours}
+pub use Rattle.nb_record.proofs.Splits.{length-sorted_by, filter_yes, filter_no}
+pub use Rattle.nb_record.proofs.Orders.{ordered_filtered}
+pub use Rattle.nb_record.proofs.Moves.{IsPermutation-filter}
+-- cells, and their bodies
+pub use Rattle.nb_record.proofs.Siblings.{in_root, all_in_cell, octant_of_cell}
+pub use Rattle.nb_record.proofs.TreeKids.{IsDivided, leaf_by_kids, divided_by_kids, kid_of_tree, empty_octant, root_of_tree}
+pub use Rattle.nb_record.proofs.TreeFound.{found_in_tree, of_tree, at_its_level, one_cell}
+pub use Rattle.nb_record.proofs.CellBodies.{cell_within, cell_read}
+-- sums and forces
+pub use Rattle.nb_record.proofs.VectorSums.{plus-zero, plus_comm, plus_assoc, vector_sum-cons, vector_sum-append, vector_sum-IsPermutation}
+pub use Rattle.nb_record.proofs.SameForces.{same_direct_sum, octants_agree, same_force_of_cell, same_force_of_all}
+-- a key's chain
+pub use Rattle.nb_record.proofs.Chains.{chain_within}
+pub use Rattle.nb_record.proofs.Lookups.{cells_follow, starts_within, key_gone}

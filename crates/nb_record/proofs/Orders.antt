@@ -140,7 +140,7 @@ each_filtered P p (b ∷ bs) each =
       | inr is ↦ subst (Each P) (sym (filter_no p b bs is)) (each_filtered P p bs each.1)
     ]
 
-ordered_filtered : (rank : Body → ℕ) (p : Body → Bool) (bs : List Body) → Ordered rank bs → Ordered rank (filter p bs)
+pub ordered_filtered : (rank : Body → ℕ) (p : Body → Bool) (bs : List Body) → Ordered rank bs → Ordered rank (filter p bs)
 ordered_filtered rank p [] is = tt
 ordered_filtered rank p (b ∷ bs) all =
     elim (either (p b)) [
