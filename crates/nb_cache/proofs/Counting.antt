@@ -5,7 +5,7 @@ use Rattle.std.proofs.lemmas.Option.{slice_get_cases}
 use Rattle.std.specs.Map.{lookup, lookup_entry, remove_entry}
 use Rattle.nb_host.specs.declared.page_name.PageName.{PageName}
 use Rattle.lru.specs.LruCache.{LruCache, IsValid, lru_cache, put_entries, promoted, displaced}
-use Rattle.nb_cache.specs.Names.{same_page}
+use Rattle.nb_host.specs.Page.{same_page}
 use Rattle.nb_cache.specs.Stock.{Stock, HasFrames, held_of}
 use Rattle.nb_cache.specs.declared.frame.Frame.{Frame}
 use Rattle.nb_cache.proofs.Entries.{stock_of}

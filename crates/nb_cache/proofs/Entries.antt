@@ -4,15 +4,17 @@ use Rattle.std.specs.List.{IsDistinct}
 use Rattle.std.specs.Map.{keys_of}
 use Rattle.std.proofs.lemmas.Map.Entries.{length-keys_of}
 use Rattle.nb_host.specs.declared.page_name.PageName.{PageName}
+use Rattle.nb_host.specs.declared.page_name.TheConstants.{PAGE_SIZE}
 use Rattle.lru.specs.LruCache.{IsValid, lru_cache}
 use Rattle.lru.proofs.CallerLemmas.{Contains-take}
 use Rattle.lru.proofs.Splits.{Contains-head, Contains-tail, Contains-cons, Contains-nil}
-use Rattle.nb_cache.specs.Names.{same_page}
+use Rattle.nb_host.specs.Page.{same_page}
 use Rattle.nb_cache.specs.Stock.{Stock, held_of}
 use Rattle.nb_cache.specs.View.{Held, CacheValue, held_names, overlaid}
 use Rattle.nb_cache.specs.WriteThrough.{IsWriteThrough}
 use Rattle.nb_cache.specs.declared.frame.Frame.{Frame}
-use Rattle.nb_cache.proofs.Pages.{others, same_page_apart}
+use Rattle.nb_host.proofs.Callers.{same_page_apart}
+use Rattle.nb_cache.proofs.Pages.{others}
 
 abbrev pub stock_of : List (PageName × Frame) → ℕ → ℕ → ℕ → Stock
 stock_of es cap spare room = record { pages = cap; held = held_of es; spare = spare; room = room }
@@ -88,7 +90,7 @@ sound es cap valid = record {
   bound = omega (arith, ap (λ l. length l) (names_of-held es), length-keys_of es, valid.1);
   positive = valid.2;
   whole = λ h has. let one = Contains-held es h has in
-      subst (λ (g : Held). length g.bytes ≡ 4096) one.2 one.0.1.whole;
+      subst (λ (g : Held). length g.bytes ≡ PAGE_SIZE) one.2 one.0.1.whole;
   written = λ h has. let one = Contains-held es h has in subst (λ (g : Held). g.waiting ≡ false) one.2 refl;
   view = λ file bytes. overoverlaid-held file es bytes;
 }

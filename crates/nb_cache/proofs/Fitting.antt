@@ -3,34 +3,16 @@ use Rattle.std.proofs.Common.{◌≡◌, ◌≢◌, ℕ, ◌+◌, ◌*◌, ◌==
 use Rattle.std.proofs.lemmas.Bool.Decides.{nat_tests}
 use Rattle.lru.proofs.Splits.{Contains-head, Contains-tail, Contains-cons, Contains-nil}
 use Rattle.nb_host.specs.Image.{Image, FileBecomes, IsTorn, overwritten, readable}
-use Rattle.nb_host.proofs.Steps.{overwritten_is_torn, readable-torn_after, readable-torn_before, readable-overwritten, length-readable}
+use Rattle.nb_host.proofs.Callers.{page_stays, whole_page}
 use Rattle.nb_host.specs.declared.page_name.PageName.{PageName}
-use Rattle.nb_cache.specs.Names.{same_page, without_file}
-use Rattle.nb_cache.specs.InStep.{IsCacheable, Fits}
+use Rattle.nb_host.specs.Page.{same_page}
+use Rattle.nb_cache.specs.Names.{without_file}
+use Rattle.nb_cache.specs.InStep.{IsCachedFile, IsCacheable, Fits}
 use Rattle.nb_cache.specs.WriteThrough.{IsWriteThrough}
-use Rattle.nb_cache.specs.View.{Held, CacheValue, names_of, page_of, view_of, IsWhole}
-use Rattle.nb_cache.proofs.Pages.{same_page_eq}
-
--- a page of its full length is whole in the file
-pub whole_page : (bytes : List ℕ) (page : ℕ) → length (page_of bytes page) ≡ 4096 → (page + 1) * 4096 ≤ length bytes
-whole_page bytes page full = omega (arith, length-readable (page * 4096) 4096 bytes, full)
-
--- a write of one page, perhaps in part, leaves every other page that is whole
-pub page_stays : (page other : ℕ) (old new : List ℕ) → IsTorn (page * 4096) 4096 old new
-    → (other + 1) * 4096 ≤ length old → other ≢ page → page_of new other ≡ page_of old other
-page_stays page other old new torn whole apart = elim (split page other apart) [
-  | inl before ↦ readable-torn_after (other * 4096) 4096 (page * 4096) 4096 old new torn (omega arith) (omega arith)
-  | inr after ↦ readable-torn_before (other * 4096) 4096 (page * 4096) 4096 old new torn (omega arith) (omega arith)
-] where
-  split : (page other : ℕ) → other ≢ page → (other < page) ⊎ (page < other)
-  split page other apart = grind arith
-
--- a page that was written is the bytes
-pub page_written : (page : ℕ) (bytes file : List ℕ) → length bytes ≡ 4096
-    → page_of (overwritten (page * 4096) bytes file) page ≡ bytes
-page_written page bytes file full =
-    ap (λ n. readable (page * 4096) n (overwritten (page * 4096) bytes file)) (sym full)
-    ∙ readable-overwritten (page * 4096) bytes file
+use Rattle.nb_host.specs.Page.{HasPage, page_of, page_start}
+use Rattle.nb_host.specs.declared.page_name.TheConstants.{PAGE_SIZE}
+use Rattle.nb_cache.specs.View.{Held, CacheValue, names_of, view_of, IsWhole}
+use Rattle.nb_host.proofs.Callers.{same_page_eq}
 
 -- Pages that are among those that were there.
 pub fits_fewer : (old new : CacheValue) (image : Image) → Fits old image
@@ -67,21 +49,21 @@ same_name : (n k : PageName) → n.file ≡ k.file → n.page ≡ k.page → n �
 same_name n k file page = let test : same_page n k ≡ true = grind (arith, nat_tests) in same_page_eq n k test
 
 -- the host's page of a name that is another one of the same file, or of another file, after a write in part
-other_page : (old new : Image) (k n : PageName) → FileBecomes k.file (IsTorn (k.page * 4096) 4096) old new → n ≢ k
-    → (n.page + 1) * 4096 ≤ length (old.file n.file)
+other_page : (old new : Image) (k n : PageName) → FileBecomes k.file (IsTorn (page_start k.page) PAGE_SIZE) old new → n ≢ k
+    → HasPage (old.file n.file) n.page
     → page_of (new.file n.file) n.page ≡ page_of (old.file n.file) n.page
 other_page old new k n torn apart whole = elim (same_or n.file k.file) [
   | inl same ↦
       subst (λ f. page_of (new.file f) n.page ≡ page_of (old.file f) n.page) (sym same)
-      (page_stays k.page n.page (old.file k.file) (new.file k.file) torn.file
-      (subst (λ f. (n.page + 1) * 4096 ≤ length (old.file f)) same whole)
+      (page_stays k.page n.page torn.file
+      (subst (λ f. HasPage (old.file f) n.page) same whole)
       (λ page. apart (same_name n k same page)))
   | inr other ↦ ap (λ l. page_of l n.page) (torn.others n.file other)
 ]
 
 -- a page was written, perhaps in part: the others stay
 pub fits_written : (old new : CacheValue) (before after : Image) (k : PageName) (bytes : List ℕ) → IsCacheable k
-    → FileBecomes k.file (IsTorn (k.page * 4096) 4096) before after → IsWriteThrough old.pages old.held → Fits old before
+    → FileBecomes k.file (IsTorn (page_start k.page) PAGE_SIZE) before after → IsWriteThrough old.pages old.held → Fits old before
     → ((h : Held) → Contains new.held h
     → ((h ≡ record { name = k; bytes = bytes; waiting = false }) × (bytes ≡ page_of (after.file k.file) k.page))
     ⊎ (Contains old.held h × (h.name ≢ k)))
@@ -113,17 +95,14 @@ fits_apart old new before after file P becomes fits held = record {
 }
 
 -- calls of the host on files that don't go through a cache keep it in step
-pub fits_elsewhere : (c : CacheValue) (before after : Image) (file : ℕ) (P : List ℕ → List ℕ → Type 0)
-    → FileBecomes file P before after → (file < 3) ⊎ (7 < file) → Fits c before → Fits c after
-fits_elsewhere c before after file P becomes outside fits =
-    fits_apart c c before after file P becomes fits
-    (λ h has. let place = fits.places h has in (
-      has,
-      λ same. elim outside [
-        | inl below ↦ omega (arith, place.least, same)
-        | inr above ↦ omega (arith, place.greatest, same)
-      ],
-    ))
+pub fits_elsewhere : (c : CacheValue) (before after : Image)
+    → ((file : ℕ) → IsCachedFile file → after.file file ≡ before.file file) → Fits c before → Fits c after
+fits_elsewhere c before after same fits = record {
+  places = fits.places;
+  pages = λ h has written.
+      fits.pages h has written
+      ∙ ap (λ l. page_of l h.name.page) (sym (same h.name.file (fits.places h has).file));
+}
 
 -- nothing is resident
 pub fits_empty : (pages : ℕ) (unwritten : List ℕ) (image : Image)
@@ -147,8 +126,8 @@ resident_whole c image k sound fits has =
     let page = fits.pages one.0 one.1 (sound.written one.0 one.1) in
     let full = ap (λ l. length l) (sym page) ∙ sound.whole one.0 one.1 in
     let whole = whole_page (image.file one.0.name.file) one.0.name.page full in
-    subst (λ (n : PageName). (n.page + 1) * 4096 ≤ length (view_of c image n.file)) one.2
-    (subst (λ l. (one.0.name.page + 1) * 4096 ≤ length l) (sym (sound.view one.0.name.file (image.file one.0.name.file))) whole)
+    subst (λ (n : PageName). HasPage (view_of c image n.file) n.page) one.2
+    (subst (λ l. HasPage l one.0.name.page) (sym (sound.view one.0.name.file (image.file one.0.name.file))) whole)
 
 -- a page of a file that was taken out isn't resident
 pub not_of_file : (file : ℕ) (names : List PageName) (n : PageName) → Contains (without_file file names) n
@@ -183,19 +162,3 @@ fits_emptied old new before after file P becomes fits held names =
       not_of_file file (names_of old) h.name
           (subst (λ l. Contains l h.name) names (name_there new.held h has)),
     ))
-
--- what is said keeps a cache in step
-pub fits_said : (c : CacheValue) (before after : Image) → after.file ≡ before.file → Fits c before → Fits c after
-fits_said c before after same fits = record {
-  places = fits.places;
-  pages = λ h has written.
-      fits.pages h has written ∙ sym (ap (λ (f : ℕ → List ℕ). page_of (f h.name.file) h.name.page) same);
-}
-
--- after a page was put, another that was whole is as before
-pub page_kept : (page other : ℕ) (bytes file : List ℕ) → length bytes ≡ 4096 → (other + 1) * 4096 ≤ length file
-    → other ≢ page → page_of (overwritten (page * 4096) bytes file) other ≡ page_of file other
-page_kept page other bytes file full whole apart =
-    page_stays page other file (overwritten (page * 4096) bytes file)
-    (subst (λ n. IsTorn (page * 4096) n file (overwritten (page * 4096) bytes file)) full
-    (overwritten_is_torn (page * 4096) bytes file)) whole apart

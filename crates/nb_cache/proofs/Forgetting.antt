@@ -12,8 +12,9 @@ use Rattle.std.proofs.lemmas.Option.{slice_get_cases}
 use Rattle.nb_cache.specs.WriteThrough.{IsWriteThrough}
 use Rattle.nb_cache.specs.Stock.{Stock, HasFrames}
 use Rattle.nb_cache.specs.View.{Held, held_names}
-use Rattle.nb_cache.specs.Names.{same_page, without, without_file, used}
-use Rattle.nb_cache.proofs.Pages.{same_page_refl}
+use Rattle.nb_host.specs.Page.{same_page}
+use Rattle.nb_cache.specs.Names.{without, without_file, used}
+use Rattle.nb_host.proofs.Callers.{same_page_refl}
 use Rattle.nb_cache.proofs.Uses.{Lacks, without_lacking}
 
 -- the names when those from the place `left` on were looked at

@@ -1,10 +1,11 @@
-pub mod Counting
-pub mod Entries
-pub mod Fetching
-pub mod Fitting
-pub mod Forgetting
-pub mod Marking
-pub mod Pages
-pub mod Residents
-pub mod Uses
-pub mod Writing
+pub mod Callers
+mod Counting
+mod Entries
+mod Fetching
+mod Fitting
+mod Forgetting
+mod Marking
+mod Pages
+mod Residents
+mod Uses
+mod Writing

@@ -7,18 +7,11 @@ use Rattle.std.proofs.lemmas.Map.Keys.{IsDistinct-head, IsDistinct-tail}
 use Rattle.std.specs.List.{AllByRecursion, filter, IsDistinct}
 use Rattle.std.specs.Map.{keys_of, lookup_entry, remove_entry}
 use Rattle.nb_host.specs.declared.page_name.PageName.{PageName}
+use Rattle.nb_host.proofs.Callers.{same_page_eq}
 use Rattle.lru.specs.LruCache.{lru_cache, put_entries, promoted}
 use Rattle.lru.proofs.CallerLemmas.{Contains-lookup_entry}
-use Rattle.nb_cache.specs.Names.{same_page, without, used}
-
-pub same_page_eq : (a b : PageName) → same_page a b ≡ true → a ≡ b
-same_page_eq a b same = grind (arith, nat_tests)
-
-pub same_page_refl : (a : PageName) → same_page a a ≡ true
-same_page_refl a = grind (arith, nat_tests)
-
-pub same_page_apart : (a b : PageName) → same_page a b ≡ false → a ≢ b
-same_page_apart a b apart same = let this : same_page a b ≡ true = subst (λ c. same_page a c ≡ true) same (same_page_refl a) in (cc)
+use Rattle.nb_host.specs.Page.{same_page}
+use Rattle.nb_cache.specs.Names.{without, used}
 
 pub take_cons : {X : Type 0} (n : ℕ) (x : X) (xs : List X) → 0 < n → take n (x ∷ xs) ≡ x ∷ take (n - 1) xs
 take_cons zero x xs positive = absurd (omega arith)

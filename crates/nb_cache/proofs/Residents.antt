@@ -9,12 +9,14 @@ use Rattle.nb_host.specs.declared.page_name.PageName.{PageName}
 use Rattle.lru.specs.LruCache.{LruCache, IsValid, lru_cache, put_entries, promoted, last_entry}
 use Rattle.lru.proofs.CallerLemmas.{Contains-promoted, Contains-lookup}
 use Rattle.lru.proofs.Splits.{Contains-head, Contains-tail, Contains-cons, Contains-nil}
-use Rattle.nb_cache.specs.Names.{same_page, without, used}
+use Rattle.nb_host.specs.Page.{same_page}
+use Rattle.nb_cache.specs.Names.{without, used}
 use Rattle.nb_cache.specs.Stock.{Stock, held_of}
 use Rattle.nb_cache.specs.View.{Held, held_names, shown, overlaid}
 use Rattle.nb_cache.specs.WriteThrough.{IsWriteThrough}
 use Rattle.nb_cache.specs.declared.frame.Frame.{Frame}
-use Rattle.nb_cache.proofs.Pages.{others, same_page_eq, same_page_apart, keys-promoted, put_entries-others, keys-put, remove_entry-others, keys_of-others}
+use Rattle.nb_host.proofs.Callers.{same_page_eq, same_page_apart}
+use Rattle.nb_cache.proofs.Pages.{others, keys-promoted, put_entries-others, keys-put, remove_entry-others, keys_of-others}
 use Rattle.nb_cache.proofs.Entries.{held, stock_of, names_of-held, Contains-to_held, Contains-held_more, others_held, overoverlaid-held, sound}
 
 -- whether a look-up finds a pair

@@ -7,8 +7,9 @@ use Rattle.std.proofs.lemmas.List.Folds.{list_any-append}
 use Rattle.std.proofs.lemmas.Map.Keys.{IsDistinct-head, IsDistinct-tail}
 use Rattle.std.specs.List.{AllByRecursion, IsDistinct, list_any}
 use Rattle.nb_host.specs.declared.page_name.PageName.{PageName}
-use Rattle.nb_cache.specs.Names.{same_page, without, used, IsBefore, IsRising}
-use Rattle.nb_cache.proofs.Pages.{same_page_eq}
+use Rattle.nb_host.specs.Page.{same_page, IsBefore, IsRising}
+use Rattle.nb_cache.specs.Names.{without, used}
+use Rattle.nb_host.proofs.Callers.{same_page_eq}
 
 -- none of the names is this one
 abbrev pub Lacks : PageName → List PageName → Type 0

@@ -1,13 +1,20 @@
 -- Which pages a cache may hold, and when it is in step with a host.
-use Rattle.std.specs.Prelude.{◌≡◌, ◌<◌, ◌≤◌, ◌^◌, Bool, false, IsTrue, Contains}
+use Rattle.std.specs.Prelude.{◌≡◌, ℕ, ◌<◌, ◌≤◌, ◌^◌, false, IsTrue, Contains}
 use Rattle.nb_host.specs.Image.{Image}
+use Rattle.nb_host.specs.Meaning.{HostModel}
+use Rattle.nb_host.specs.Page.{page_of}
 use Rattle.nb_host.specs.declared.page_name.PageName.{PageName}
-use Rattle.nb_cache.specs.View.{Held, CacheValue, page_of}
+use Rattle.nb_cache.specs.View.{Held, CacheValue}
+use Rattle.nb_cache.specs.declared.marks.TheConstants.{FIRST_CACHED_FILE, LAST_CACHED_FILE}
+
+-- a file whose pages go through a cache
+pub record IsCachedFile (file : ℕ) : Type 0 where
+  pub least : FIRST_CACHED_FILE ≤ file
+  pub greatest : file ≤ LAST_CACHED_FILE
 
 -- a page that may go through a cache
 pub record IsCacheable (name : PageName) : Type 0 where
-  pub least : 3 ≤ name.file
-  pub greatest : name.file ≤ 7
+  pub file : IsCachedFile name.file
   pub page : name.page < 2 ^ 48
 
 -- every resident page may be there, and one that doesn't wait is the host's
@@ -17,6 +24,6 @@ pub record Fits (c : CacheValue) (image : Image) : Type 0 where
       → h.bytes ≡ page_of (image.file h.name.file) h.name.page
 
 -- The cache fits a host that tells. Each call of a cache takes this and keeps it, whatever it answers, and calls of the
--- host on files below 3 or above 7 keep it.
-abbrev pub IsInStep : {H : Type 0} → (H → Bool) → (H → Image) → CacheValue → H → Type 0
-IsInStep tells contents c host = IsTrue (tells host) → Fits c (contents host)
+-- host on files that don't go through a cache keep it.
+abbrev pub IsInStep : {H : Type 0} → HostModel H → CacheValue → H → Type 0
+IsInStep m c host = IsTrue m.tells → Fits c (m.contents host)

@@ -1,9 +1,10 @@
 -- What a cache is to its callers: how many pages it has, the resident pages, and the bytes that it shows over a host's.
-use Rattle.std.specs.Prelude.{◌≡◌, ℕ, ◌+◌, ◌*◌, ◌≤◌, Bool, if◌then◌else◌, ◌&&◌, ◌==◌, List, [], ◌∷◌, map, length, take, drop, slice_get, Option, None, Some}
+use Rattle.std.specs.Prelude.{◌≡◌, ℕ, Bool, IsTrue, if◌then◌else◌, ◌&&◌, ◌==◌, List, [], ◌∷◌, map, take, slice_get, Option, None, Some}
 use Rattle.std.specs.List.{AllByRecursion}
 use Rattle.nb_host.specs.Image.{Image, overwritten}
+use Rattle.nb_host.specs.Meaning.{HostModel}
+use Rattle.nb_host.specs.Page.{HasPage, page_start, same_page}
 use Rattle.nb_host.specs.declared.page_name.PageName.{PageName}
-use Rattle.nb_cache.specs.Names.{same_page}
 
 -- a resident page, and whether it waits to be written
 pub record Held : Type 0 where
@@ -29,24 +30,32 @@ abbrev pub shown : List Held → PageName → Option (List ℕ)
 shown [] name = None
 shown (h ∷ held) name = if same_page name h.name then Some h.bytes else shown held name
 
--- a page of a file, shorter where the file ends within it
-abbrev pub page_of : List ℕ → ℕ → List ℕ
-page_of bytes page = take 4096 (drop (page * 4096) bytes)
-
 -- a file's bytes with its waiting pages laid over them
 abbrev pub overlaid : ℕ → List Held → List ℕ → List ℕ
 overlaid file [] bytes = bytes
 overlaid file (h ∷ held) bytes =
-    if h.waiting && (h.name.file == file) then overwritten (h.name.page * 4096) h.bytes (overlaid file held bytes)
+    if h.waiting && (h.name.file == file) then overwritten (page_start h.name.page) h.bytes (overlaid file held bytes)
     else overlaid file held bytes
 
 -- a file as the cache shows it: the host's, with the waiting pages laid over it
 abbrev pub view_of : CacheValue → Image → ℕ → List ℕ
 view_of c image file = overlaid file c.held (image.file file)
 
+-- a file as the cache shows it over a host, where that tells its contents
+abbrev pub seen : {H : Type 0} → HostModel H → CacheValue → H → ℕ → List ℕ
+seen m c host = view_of c (m.contents host)
+
+-- Over a host that tells, a file as the cache shows it changes by this relation of its old and new bytes.
+pub record Seen {H : Type 0} (m : HostModel H) (file : ℕ) (R : List ℕ → List ℕ → Type 0) (old_cache : CacheValue) (old : H) (new_cache : CacheValue) (new : H) : Type 0 where
+  pub told : IsTrue m.tells → R (seen m old_cache old file) (seen m new_cache new file)
+
+-- bytes that stay as they are
+abbrev pub Same : List ℕ → List ℕ → Type 0
+Same old new = new ≡ old
+
 -- the page is whole in the view
 abbrev pub IsWhole : CacheValue → Image → PageName → Type 0
-IsWhole c image name = (name.page + 1) * 4096 ≤ length (view_of c image name.file)
+IsWhole c image name = HasPage (view_of c image name.file) name.page
 
 -- the first of the names whose page isn't whole in the view
 pub record IsFirstShort (c : CacheValue) (image : Image) (names : List PageName) (name : PageName) : Type 0 where

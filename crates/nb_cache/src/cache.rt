@@ -1,22 +1,22 @@
 //! The cache of pages.
 
-ghost use Rattle.std.specs.Prelude.{◌≡◌, ◌≢◌, ℕ, ◌*◌, ◌^◌, ◌≤◌, ◌↔◌, ◌⊎◌, false, [], ◌∷◌, IsTrue, option_map, IsSome, IfSome, IfOk, OnOk, OnErr, Err, Contains, length};
+ghost use Rattle.std.specs.Prelude.{◌≡◌, ◌≢◌, ℕ, ◌^◌, ◌≤◌, ◌↔◌, ◌⊎◌, false, [], ◌∷◌, IsTrue, option_map, IsSome, IfSome, IfOk, OnOk, OnErr, Err, Contains, length};
 ghost use Rattle.std.specs.List.{AllByRecursion};
-ghost use Rattle.nb_host.specs.Image.{Image, IsTorn, IsPartlyCut, overwritten};
+ghost use Rattle.nb_host.specs.Image.{Image, IsOverwritten, IsTorn, IsPartlyCut};
+ghost use Rattle.nb_host.specs.Meaning.{Counts};
+ghost use Rattle.nb_host.specs.Page.{IsRising, page_of, page_start};
 ghost use Rattle.nb_host.specs.declared.page_name.PageName.{PageName as PageNames};
-ghost use Rattle.nb_cache.specs.Errors.{CountsCacheFault};
-ghost use Rattle.nb_cache.specs.Names.{IsRising, used, without_file};
-ghost use Rattle.nb_cache.specs.InStep.{IsCacheable, IsInStep, Fits};
-ghost use Rattle.nb_cache.specs.View.{Held, names_of, shown, page_of, view_of, IsWhole, IsFirstShort};
-ghost use Rattle.nb_cache.specs.Writes.{Writes};
+ghost use Rattle.nb_cache.specs.Names.{used, without_file};
+ghost use Rattle.nb_cache.specs.InStep.{IsCachedFile, IsCacheable, IsInStep, Fits};
+ghost use Rattle.nb_cache.specs.View.{Held, names_of, shown, view_of, seen, Seen, Same, IsWhole, IsFirstShort};
+ghost use Rattle.nb_cache.specs.Writes.{RanCached};
 ghost use Rattle.nb_cache.specs.WriteThrough.{IsWriteThrough, IsReading};
 
 use crate::cache_error::CacheError;
-use crate::frame::PAGE_LENGTH;
 use crate::frames::Frames;
 use crate::load::load;
 use crate::marks::Marks;
-use nb_host::{Host, PageName};
+use nb_host::{Host, PAGE_SIZE, PageName};
 use nb_model::NoMemory;
 use std::alloc::Global;
 use std::marker::Model;
@@ -81,7 +81,7 @@ impl Cache {
     pub fn lent(&self, name: PageName) -> Option<&[u8]>
         ensures resident { IsSome result ↔ Contains (names_of self.now) name }
         ensures shown { option_map (λ bytes. bytes.now) result ≡ shown self.now.held name }
-        ensures whole { IfSome result (λ bytes. length bytes.now ≡ 4096) }
+        ensures whole { IfSome result (λ bytes. length bytes.now ≡ PAGE_SIZE) }
         ensures view { (image : Image) → Fits self.now image → IfSome result (λ bytes.
             bytes.now ≡ page_of (view_of self.now image name.file) name.page) }
     {
@@ -94,21 +94,17 @@ impl Cache {
         requires rising { IsRising names.now }
         requires room { length names.now ≤ self.old.pages }
         requires names { AllByRecursion IsCacheable names.now }
-        requires in_step { IsInStep H.tells H.contents self.old host.old }
+        requires in_step { IsInStep H.meaning self.old host.old }
         ensures resident { OnOk result (names_of self.new
             ≡ used self.old.pages names.now (names_of self.old)) }
-        ensures view { IsTrue (H.tells host.old) → (file : ℕ)
-            → view_of self.new (H.contents host.new) file ≡ view_of self.old (H.contents host.old) file }
         ensures unwritten { self.new.unwritten ≡ self.old.unwritten }
-        ensures whole { OnOk result (IsTrue (H.tells host.old)
-            → AllByRecursion (IsWhole self.old (H.contents host.old)) names.now) }
-        ensures short { (name : PageNames) → result ≡ Err (CacheError.Short name) → IsTrue (H.tells host.old)
-            → IsFirstShort self.old (H.contents host.old) names.now name }
+        ensures whole { OnOk result (IsTrue H.meaning.tells
+            → AllByRecursion (IsWhole self.old (H.meaning.contents host.old)) names.now) }
+        ensures short { (name : PageNames) → result ≡ Err (CacheError.Short name) → IsTrue H.meaning.tells
+            → IsFirstShort self.old (H.meaning.contents host.old) names.now name }
         ensures named { (name : PageNames) → result ≡ Err (CacheError.Short name) → Contains names.now name }
-        ensures writes { Writes H.crashes H.tells H.contents [] self.old host.old self.new host.new }
         ensures bound { length (names_of self.new) ≤ self.new.pages }
-        ensures fault { CountsCacheFault (H.faults host.old) (H.faults host.new) result }
-        ensures refused { H.refused_says host.new ≡ H.refused_says host.old }
+        ensures ran { RanCached H.meaning CacheError.Fault [] self.old host.old self.new host.new result }
     {
         let _ = self.len();
         for &name in names {
@@ -125,31 +121,27 @@ impl Cache {
         bytes: &[u8],
     ) -> Result<(), CacheError>
         requires name { IsCacheable name }
-        requires page { length bytes.now ≡ 4096 }
-        requires in_step { IsInStep H.tells H.contents self.old host.old }
+        requires page { length bytes.now ≡ PAGE_SIZE }
+        requires in_step { IsInStep H.meaning self.old host.old }
         ensures resident { OnOk result (names_of self.new
             ≡ used self.old.pages (name ∷ []) (names_of self.old)) }
-        ensures view { OnOk result (IsTrue (H.tells host.old)
-            → view_of self.new (H.contents host.new) name.file ≡ overwritten (name.page * 4096) bytes.now
-            (view_of self.old (H.contents host.old) name.file)) }
-        ensures torn { IsTrue (H.tells host.old) → IsTorn (name.page * 4096) 4096
-            (view_of self.old (H.contents host.old) name.file)
-            (view_of self.new (H.contents host.new) name.file) }
+        ensures view { OnOk result (Seen H.meaning name.file (IsOverwritten (page_start name.page) bytes.now)
+            self.old host.old self.new host.new) }
+        ensures torn { Seen H.meaning name.file (IsTorn (page_start name.page) PAGE_SIZE)
+            self.old host.old self.new host.new }
         ensures unwritten { (file : ℕ) → (Contains self.new.unwritten file
             ↔ ((file ≡ name.file) ⊎ Contains self.old.unwritten file)) }
-        ensures no_memory { result ≡ Err CacheError.NoMemory → IsTrue (H.tells host.old) → (file : ℕ)
-            → view_of self.new (H.contents host.new) file ≡ view_of self.old (H.contents host.old) file }
+        ensures no_memory { result ≡ Err CacheError.NoMemory → (file : ℕ)
+            → Seen H.meaning file Same self.old host.old self.new host.new }
         ensures host_refusal { (other : PageNames) → result ≢ Err (CacheError.Short other) }
-        ensures writes { Writes H.crashes H.tells H.contents (name.file ∷ []) self.old host.old self.new
-            host.new }
         ensures bound { length (names_of self.new) ≤ self.new.pages }
-        ensures fault { CountsCacheFault (H.faults host.old) (H.faults host.new) result }
-        ensures refused { H.refused_says host.new ≡ H.refused_says host.old }
+        ensures ran { RanCached H.meaning CacheError.Fault (name.file ∷ []) self.old host.old
+            self.new host.new result }
     {
         let _ = self.len();
         self.unwritten.mark(name.file);
         self.keep(name, bytes)?;
-        match host.write_at(name.file, name.page * PAGE_LENGTH as u64, bytes) {
+        match host.write_at(name.file, name.page * PAGE_SIZE as u64, bytes) {
             Ok(()) => Ok(()),
             Err(error) => {
                 self.frames.forget(name);
@@ -160,17 +152,15 @@ impl Cache {
 
     /// Writes the pages that wait to be written: none does, since `put` writes each at once.
     pub fn flush<H: Host>(&mut self, host: &mut H) -> Result<(), CacheError>
-        requires { IsInStep H.tells H.contents self.old host.old }
+        requires { IsInStep H.meaning self.old host.old }
         ensures resident { names_of self.new ≡ names_of self.old }
-        ensures written { OnOk result (IsTrue (H.tells host.old) → (file : ℕ)
-            → (H.contents host.new).file file ≡ view_of self.old (H.contents host.old) file) }
+        ensures written { OnOk result (IsTrue H.meaning.tells → (file : ℕ)
+            → (H.meaning.contents host.new).file file ≡ seen H.meaning self.old host.old file) }
         ensures unwritten { OnOk result (self.new.unwritten ≡ []) }
         ensures waits { OnErr result (self.new.unwritten ≡ self.old.unwritten) }
         ensures host_refusal { (other : PageNames) → result ≢ Err (CacheError.Short other) }
-        ensures writes { Writes H.crashes H.tells H.contents [] self.old host.old self.new host.new }
         ensures bound { length (names_of self.new) ≤ self.new.pages }
-        ensures fault { CountsCacheFault (H.faults host.old) (H.faults host.new) result }
-        ensures refused { H.refused_says host.new ≡ H.refused_says host.old }
+        ensures ran { RanCached H.meaning CacheError.Fault [] self.old host.old self.new host.new result }
     {
         let _ = host;
         let _ = self.len();
@@ -181,26 +171,22 @@ impl Cache {
     /// Empties a file, in the view and on the host. None of its pages stays resident. After Fault the file
     /// may have any length up to its old one, and hold anything.
     pub fn empty<H: Host>(&mut self, host: &mut H, file: u64) -> Result<(), CacheError>
-        requires least { 3 ≤ file }
-        requires greatest { file ≤ 7 }
-        requires in_step { IsInStep H.tells H.contents self.old host.old }
+        requires cached { IsCachedFile file }
+        requires in_step { IsInStep H.meaning self.old host.old }
         ensures resident { OnOk result (names_of self.new ≡ without_file file (names_of self.old)) }
         ensures others { without_file file (names_of self.new) ≡ without_file file (names_of self.old) }
-        ensures cleared { OnOk result (IsTrue (H.tells host.old) → (H.contents host.new).file file ≡ []) }
-        ensures view { OnOk result (IsTrue (H.tells host.old)
-            → view_of self.new (H.contents host.new) file ≡ []) }
-        ensures partly { IsTrue (H.tells host.old) → IsPartlyCut 0
-            (view_of self.old (H.contents host.old) file) (view_of self.new (H.contents host.new) file) }
-        ensures no_memory { result ≡ Err CacheError.NoMemory → IsTrue (H.tells host.old) → (other : ℕ)
-            → view_of self.new (H.contents host.new) other ≡ view_of self.old (H.contents host.old) other }
+        ensures cleared { OnOk result (IsTrue H.meaning.tells → (H.meaning.contents host.new).file file ≡ []) }
+        ensures view { OnOk result (IsTrue H.meaning.tells → seen H.meaning self.new host.new file ≡ []) }
+        ensures partly { Seen H.meaning file (IsPartlyCut 0) self.old host.old self.new host.new }
+        ensures no_memory { result ≡ Err CacheError.NoMemory → (other : ℕ)
+            → Seen H.meaning other Same self.old host.old self.new host.new }
         ensures unwritten { OnOk result ((other : ℕ) → (Contains self.new.unwritten other
             ↔ (Contains self.old.unwritten other × (other ≢ file)))) }
         ensures waits { OnErr result (self.new.unwritten ≡ self.old.unwritten) }
         ensures host_refusal { (other : PageNames) → result ≢ Err (CacheError.Short other) }
-        ensures writes { Writes H.crashes H.tells H.contents (file ∷ []) self.old host.old self.new host.new }
         ensures bound { length (names_of self.new) ≤ self.new.pages }
-        ensures fault { CountsCacheFault (H.faults host.old) (H.faults host.new) result }
-        ensures refused { H.refused_says host.new ≡ H.refused_says host.old }
+        ensures ran { RanCached H.meaning CacheError.Fault (file ∷ []) self.old host.old
+            self.new host.new result }
     {
         let _ = self.len();
         self.frames.forget_file(file);
@@ -212,17 +198,16 @@ impl Cache {
     /// Makes one page resident and the most recently used.
     fn bring<H: Host>(&mut self, host: &mut H, name: PageName) -> Result<(), CacheError>
         requires name { IsCacheable name }
-        requires in_step { IsInStep H.tells H.contents self.old host.old }
+        requires in_step { IsInStep H.meaning self.old host.old }
         ensures resident { OnOk result (names_of self.new
             ≡ used self.old.pages (name ∷ []) (names_of self.old)) }
-        ensures whole { OnOk result (IsTrue (H.tells host.old)
-            → IsWhole self.old (H.contents host.old) name) }
+        ensures whole { OnOk result (IsTrue H.meaning.tells
+            → IsWhole self.old (H.meaning.contents host.old) name) }
         ensures short { (other : PageNames) → result ≡ Err (CacheError.Short other) → other ≡ name }
         ensures ends { (other : PageNames) → result ≡ Err (CacheError.Short other)
-            → IsTrue (H.tells host.old) → IsWhole self.old (H.contents host.old) name → ⊥ }
-        ensures reads { IsReading H.crashes H.tells H.contents self.old host.old self.new host.new }
-        ensures fault { CountsCacheFault (H.faults host.old) (H.faults host.new) result }
-        ensures refused { H.refused_says host.new ≡ H.refused_says host.old }
+            → IsTrue H.meaning.tells → IsWhole self.old (H.meaning.contents host.old) name → ⊥ }
+        ensures reads { IsReading H.meaning self.old host.old self.new host.new }
+        ensures counts { Counts H.meaning CacheError.Fault host.old host.new result }
     {
         let _ = self.len();
         if self.frames.promote(name) {
@@ -243,7 +228,7 @@ impl Cache {
 
     /// Puts a copy of the bytes of a page under its name, as the most recently used.
     fn keep(&mut self, name: PageName, bytes: &[u8]) -> Result<(), NoMemory>
-        requires { length bytes.now ≡ 4096 }
+        requires { length bytes.now ≡ PAGE_SIZE }
         ensures resident { OnOk result (names_of self.new
             ≡ used self.old.pages (name ∷ []) (names_of self.old)) }
         ensures held { OnOk result ((h : Held) → Contains self.new.held h

@@ -1,30 +1,29 @@
 //! The memory of one page.
 
-ghost use Rattle.std.specs.Prelude.{◌≡◌, length, IfOk};
+ghost use Rattle.std.specs.Prelude.{◌≡◌, length};
+ghost use Rattle.nb_host.specs.declared.page_name.TheConstants.{PAGE_SIZE};
 
+use nb_host::PAGE_SIZE;
 use std::alloc::{AllocError, Global};
-
-/// The bytes of a page.
-pub(crate) const PAGE_LENGTH: usize = 4096;
 
 /// The memory of one page.
 #[derive(Drop)]
 pub(crate) struct Frame {
     pub(crate) bytes: Vec<u8>,
-    pub(crate) ghost whole: { length bytes.items ≡ 4096 },
+    pub(crate) ghost whole: { length bytes.items ≡ PAGE_SIZE },
 }
 
 impl Frame {
     /// A page of zeros.
     pub(crate) fn new(alloc: Global) -> Result<Frame, AllocError> {
         Ok(Frame {
-            bytes: vec![in alloc; 0; PAGE_LENGTH]?,
+            bytes: vec![in alloc; 0; PAGE_SIZE]?,
         })
     }
 
     /// Takes in the bytes of a page.
     pub(crate) fn fill(&mut self, bytes: &[u8])
-        requires { length bytes.now ≡ 4096 }
+        requires { length bytes.now ≡ PAGE_SIZE }
         ensures { self.new.bytes.items ≡ bytes.now }
     {
         self.bytes.copy_from_slice(bytes);

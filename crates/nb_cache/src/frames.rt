@@ -8,7 +8,7 @@ ghost use Rattle.nb_cache.specs.View.{Held, held_names, shown, overlaid};
 
 use crate::frame::Frame;
 use lru::LruCache;
-use nb_host::PageName;
+use nb_host::{PAGE_SIZE, PageName};
 use nb_model::NoMemory;
 use std::alloc::Global;
 use std::marker::Model;
@@ -74,7 +74,7 @@ impl Frames {
         ensures held { IfSome result (λ bytes. Contains self.now.held
             (record { name = name; bytes = bytes.now; waiting = false })) }
         ensures shown { option_map (λ bytes. bytes.now) result ≡ shown self.now.held name }
-        ensures whole { IfSome result (λ bytes. length bytes.now ≡ 4096) }
+        ensures whole { IfSome result (λ bytes. length bytes.now ≡ PAGE_SIZE) }
         ensures written { (file : ℕ) (bytes : List ℕ) → overlaid file self.now.held bytes ≡ bytes }
     {
         match self.resident.peek(&name) {

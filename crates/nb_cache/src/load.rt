@@ -1,15 +1,15 @@
 //! Reading a page into a frame.
 
-ghost use Rattle.std.specs.Prelude.{◌≡◌, ◌≢◌, ◌+◌, ◌*◌, ◌≤◌, IsTrue, OnOk, Err, length};
+ghost use Rattle.std.specs.Prelude.{◌≡◌, IsTrue, OnOk, Err};
 ghost use Rattle.nb_host.specs.declared.page_name.PageName.{PageName as PageNames};
-ghost use Rattle.nb_host.specs.Crashes.{ImagesFollow, Stays};
-ghost use Rattle.nb_cache.specs.Errors.{CountsCacheFault};
+ghost use Rattle.nb_host.specs.Crashes.{Stays};
+ghost use Rattle.nb_host.specs.Meaning.{Ran};
+ghost use Rattle.nb_host.specs.Page.{HasPage, page_of};
 ghost use Rattle.nb_cache.specs.InStep.{IsCacheable};
-ghost use Rattle.nb_cache.specs.View.{page_of};
 
 use crate::cache_error::CacheError;
-use crate::frame::{Frame, PAGE_LENGTH};
-use nb_host::{Host, PageName};
+use crate::frame::Frame;
+use nb_host::{Host, PAGE_SIZE, PageName};
 
 /// Reads the page into the frame, or tells that the file ends before the page does.
 pub(crate) fn load<H: Host>(
@@ -18,22 +18,18 @@ pub(crate) fn load<H: Host>(
     frame: &mut Frame,
 ) -> Result<(), CacheError>
     requires { IsCacheable name }
-    ensures page { OnOk result (IsTrue (H.tells host.old)
-        → frame.new.bytes.items ≡ page_of ((H.contents host.old).file name.file) name.page) }
-    ensures whole { OnOk result (IsTrue (H.tells host.old)
-        → (name.page + 1) * 4096 ≤ length ((H.contents host.old).file name.file)) }
+    ensures page { OnOk result (IsTrue H.meaning.tells
+        → frame.new.bytes.items ≡ page_of ((H.meaning.contents host.old).file name.file) name.page) }
+    ensures whole { OnOk result (IsTrue H.meaning.tells
+        → HasPage ((H.meaning.contents host.old).file name.file) name.page) }
     ensures short { (other : PageNames) → result ≡ Err (CacheError.Short other) → other ≡ name }
-    ensures ends { (other : PageNames) → result ≡ Err (CacheError.Short other) → IsTrue (H.tells host.old)
-        → (name.page + 1) * 4096 ≤ length ((H.contents host.old).file name.file) → ⊥ }
-    ensures same { H.contents host.new ≡ H.contents host.old }
-    ensures told { H.tells host.new ≡ H.tells host.old }
-    ensures images { ImagesFollow H.crashes host.old host.new Stays }
-    ensures fault { CountsCacheFault (H.faults host.old) (H.faults host.new) result }
-    ensures refused { H.refused_says host.new ≡ H.refused_says host.old }
+    ensures ends { (other : PageNames) → result ≡ Err (CacheError.Short other) → IsTrue H.meaning.tells
+        → HasPage ((H.meaning.contents host.old).file name.file) name.page → ⊥ }
+    ensures ran { Ran H.meaning CacheError.Fault Stays host.old host.new result }
 {
-    let at = name.page * PAGE_LENGTH as u64;
+    let at = name.page * PAGE_SIZE as u64;
     let found = host.read_at(name.file, at, &mut frame.bytes)?;
-    if found < PAGE_LENGTH {
+    if found < PAGE_SIZE {
         return Err(CacheError::Short(name));
     }
     Ok(())

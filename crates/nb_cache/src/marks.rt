@@ -1,19 +1,23 @@
 //! Which files were put into.
 
-ghost use Rattle.std.specs.Prelude.{◌≡◌, ◌≢◌, ℕ, ◌≤◌, ◌↔◌, ◌⊎◌, [], Contains};
+ghost use Rattle.std.specs.Prelude.{◌≡◌, ◌≢◌, ℕ, ◌↔◌, ◌⊎◌, [], Contains};
+ghost use Rattle.nb_cache.specs.InStep.{IsCachedFile};
 
 use std::marker::Model;
 
-/// The first of the files that go through a cache.
-const FIRST_FILE: u64 = 3;
+/// The first of the files whose pages go through a cache.
+pub const FIRST_CACHED_FILE: u64 = 3;
 
-/// How many files go through a cache.
-const FILES: usize = 5;
+/// The last of them.
+pub const LAST_CACHED_FILE: u64 = 7;
+
+/// How many they are.
+const CACHED_FILES: usize = (LAST_CACHED_FILE - FIRST_CACHED_FILE) as usize + 1;
 
 /// A mark for each file that goes through a cache. A contract sees the list of the marked files.
 #[derive(Drop)]
 pub(crate) struct Marks {
-    marked: [bool; FILES],
+    marked: [bool; CACHED_FILES],
 }
 
 impl Model for Marks {
@@ -31,32 +35,30 @@ impl Marks {
         ensures { result ≡ [] }
     {
         Marks {
-            marked: [false; FILES],
+            marked: [false; CACHED_FILES],
         }
     }
 
     /// Marks a file.
     pub(crate) fn mark(&mut self, file: u64)
-        requires least { 3 ≤ file }
-        requires greatest { file ≤ 7 }
+        requires { IsCachedFile file }
         ensures { (other : ℕ) → (Contains self.new other ↔ ((other ≡ file) ⊎ Contains self.old other)) }
     {
-        self.marked[(file - FIRST_FILE) as usize] = true;
+        self.marked[(file - FIRST_CACHED_FILE) as usize] = true;
     }
 
     /// Takes the mark from a file.
     pub(crate) fn unmark(&mut self, file: u64)
-        requires least { 3 ≤ file }
-        requires greatest { file ≤ 7 }
+        requires { IsCachedFile file }
         ensures { (other : ℕ) → (Contains self.new other ↔ (Contains self.old other × (other ≢ file))) }
     {
-        self.marked[(file - FIRST_FILE) as usize] = false;
+        self.marked[(file - FIRST_CACHED_FILE) as usize] = false;
     }
 
     /// Takes the marks from all files.
     pub(crate) fn clear(&mut self)
         ensures { self.new ≡ [] }
     {
-        self.marked = [false; FILES];
+        self.marked = [false; CACHED_FILES];
     }
 }

@@ -10,11 +10,12 @@ use Rattle.nb_host.specs.Crashes.{CrashModel, ImagesFollow, IsStretch, Stays, Ag
 use Rattle.nb_host.specs.Faults.{Rose}
 use Rattle.nb_host.specs.Image.{Image, overwritten, readable, IsTorn, IsPartlyCut, FileBecomes, Says}
 use Rattle.nb_host.specs.Meaning.{HostModel, Leads, Over, Ran, Spoke, IsDurable, IsDurableFile, untold_host}
-use Rattle.nb_host.specs.Page.{same_page}
+use Rattle.nb_host.specs.Page.{HasPage, page_of, page_start, same_page}
 use Rattle.nb_host.specs.declared.host.Channel.{Channel}
 use Rattle.nb_host.specs.declared.host.HostError.{HostError}
 use Rattle.nb_host.specs.declared.host.HostError.TheVariants.{Fault}
 use Rattle.nb_host.specs.declared.page_name.PageName.{PageName}
+use Rattle.nb_host.specs.declared.page_name.TheConstants.{PAGE_SIZE}
 
 -- The bytes of one file.
 
@@ -502,3 +503,39 @@ same_page_refl a = grind (arith, nat_tests)
 pub same_page_apart : (a b : PageName) → same_page a b ≡ false → a ≢ b
 same_page_apart a b apart same =
     let this : same_page a b ≡ true = subst (λ c. same_page a c ≡ true) same (same_page_refl a) in (cc)
+
+-- Pages.
+
+-- a page of its full length is whole in the file
+pub whole_page : (bytes : List ℕ) (page : ℕ) → length (page_of bytes page) ≡ PAGE_SIZE → HasPage bytes page
+whole_page bytes page full = omega (arith, length-readable (page_start page) PAGE_SIZE bytes, full)
+
+-- a write of one page, perhaps in part, leaves every other page that is whole
+pub page_stays : (page other : ℕ) {old new : List ℕ} → IsTorn (page_start page) PAGE_SIZE old new
+    → HasPage old other → other ≢ page → page_of new other ≡ page_of old other
+page_stays page other torn whole apart = elim (split page other apart) [
+  | inl before ↦ readable-torn_after (page_start other) PAGE_SIZE torn (omega arith) (omega arith)
+  | inr after ↦ readable-torn_before (page_start other) PAGE_SIZE torn (omega arith) (omega arith)
+] where
+  split : (page other : ℕ) → other ≢ page → (other < page) ⊎ (page < other)
+  split page other apart = grind arith
+
+-- a page that was written is the bytes
+pub page_written : (page : ℕ) (bytes file : List ℕ) → length bytes ≡ PAGE_SIZE
+    → page_of (overwritten (page_start page) bytes file) page ≡ bytes
+page_written page bytes file full =
+    ap (λ n. readable (page_start page) n (overwritten (page_start page) bytes file)) (sym full)
+    ∙ readable-overwritten (page_start page) bytes file
+
+-- a page that is written whole is torn at most
+pub page_torn : (page : ℕ) (bytes file : List ℕ) → length bytes ≡ PAGE_SIZE
+    → IsTorn (page_start page) PAGE_SIZE file (overwritten (page_start page) bytes file)
+page_torn page bytes file full =
+    subst (λ n. IsTorn (page_start page) n file (overwritten (page_start page) bytes file)) full
+    (overwritten_is_torn (page_start page) bytes file)
+
+-- after a page was written, another that was whole is as before
+pub page_kept : (page other : ℕ) (bytes file : List ℕ) → length bytes ≡ PAGE_SIZE → HasPage file other
+    → other ≢ page → page_of (overwritten (page_start page) bytes file) other ≡ page_of file other
+page_kept page other bytes file full whole apart =
+    page_stays page other (page_torn page bytes file full) whole apart

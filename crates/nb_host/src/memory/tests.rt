@@ -247,18 +247,26 @@ fn crashes(rt: HostRuntime) -> Result<(), Fail> {
 }
 
 #[test]
-fn crashes_after_half_a_write(rt: HostRuntime) -> Result<(), Fail> {
+fn crashes_after_a_write(rt: HostRuntime) -> Result<(), Fail> {
+    let whole = (Ok(()), 0, b"abc\0\0XY".as_slice());
+    let half = (Err(HostError::Fault), 1, b"abc\0\0X".as_slice());
     let table = [
-        (Outcome::Kept, b"abc\0\0X".as_slice()),
-        (Outcome::Lost, b"abc"),
+        (Outcome::Kept, whole, b"abc\0\0XY".as_slice()),
+        (Outcome::Lost, whole, b"abc"),
+        (Outcome::Filled(0x41), whole, b"abcAAAA"),
+        (Outcome::Kept, half, b"abc\0\0X"),
+        (Outcome::Lost, half, b"abc"),
         // The whole range that the call would have written is unsynced.
-        (Outcome::Filled(0x41), b"abcAAAA"),
+        (Outcome::Filled(0x41), half, b"abcAAAA"),
     ];
-    for (outcome, want) in table {
+    for (outcome, (answer, faults, reads), want) in table {
         let mut host = with_bytes(rt.alloc(), b"abc")?;
-        host.fail_at(&[1])?;
-        assert_eq!(rt; host.write_at(FILE, 5, b"XY"), Err(HostError::Fault));
-        assert_eq!(rt; (host.calls(), host.faults()), (1, 1));
+        if answer.is_err() {
+            host.fail_at(&[1])?;
+        }
+        assert_eq!(rt; host.write_at(FILE, 5, b"XY"), answer);
+        assert_eq!(rt; (host.calls(), host.faults()), (1, faults));
+        assert_eq!(rt; host.bytes(FILE), reads);
         host.crash(outcome)?;
         assert_eq!(rt; host.bytes(FILE), want);
     }

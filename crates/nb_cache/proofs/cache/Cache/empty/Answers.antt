@@ -1,4 +1,4 @@
-use Rattle.std.proofs.Common.{◌≡◌, ◌≢◌, ◌↔◌, ◌==◌, ℕ, true, false, List, [], ◌∷◌, refl, Contains, IsTrue, ap, subst, ◌∙◌}
+use Rattle.std.proofs.Common.{◌≡◌, ◌≢◌, ◌↔◌, ◌==◌, ℕ, true, false, List, [], ◌∷◌, refl, Contains, ap, subst, ◌∙◌, rules}
 use Rattle.lru.proofs.Splits.{Contains-tail}
 use Rattle.nb_host.specs.Image.{IsPartlyCut}
 use Rattle.nb_host.specs.declared.page_name.PageName.{PageName}
@@ -38,34 +38,45 @@ returns-clause-unwritten g c =
     subst (λ (v : CacheValue). (other : ℕ) → (Contains c.unmark.new.self other
     ↔ (Contains v.unwritten other × (other ≢ c.args.file)))) c.self.view_is c.unmark.ensures
 
-pub returns-in_err-cut-clause-writes : goal.returns-in_err-cut-clause-writes
-returns-in_err-cut-clause-writes g c =
-    writes_file g.H.Host.crashes g.H.Host.tells g.H.Host.contents c.args.file (IsPartlyCut 0) c.args.self.now
-    c.args.host.now (cache_of c.forget_file.new.self c.self.inside.unwritten) c.cut.new.self c.cut.ensures.images c.cut.ensures.partly c.cut.ensures.told
-    c.len.ensures.sound c.forget_file.ensures.sound
-    (λ tell.
-    let told = subst IsTrue c.cut.ensures.told tell in
-    fits_emptied c.args.self.now (cache_of c.forget_file.new.self c.self.inside.unwritten) (g.H.Host.contents c.args.host.now)
-    (g.H.Host.contents c.cut.new.self) c.args.file (IsPartlyCut 0) (c.cut.ensures.partly told)
-    (c.requires.in_step told)
-    (λ h has. subst (λ (v : CacheValue). Contains v.held h) c.self.view_is (c.forget_file.ensures.held h has))
-    (c.forget_file.ensures.resident ∙ ap (λ (v : CacheValue). without_file c.args.file (names_of v)) c.self.view_is))
-    (c.forget_file.ensures.pages ∙ ap (λ (v : CacheValue). v.pages) c.self.view_is)
-    (λ file has. Contains-tail c.args.file c.args.self.now.unwritten file
-    (subst (λ (v : CacheValue). Contains v.unwritten file) c.self.view_is has))
+pub returns-in_err-cut-clause-ran : goal.returns-in_err-cut-clause-ran
+returns-in_err-cut-clause-ran g c =
+    let cut = c.cut.ensures.ran in
+    record {
+      writes = writes_file {m = g.H.Host.meaning} c.args.file c.args.self.now
+          (cache_of c.forget_file.new.self c.self.inside.unwritten) cut.leads
+          c.len.ensures.sound c.forget_file.ensures.sound
+          (λ tells.
+          fits_emptied c.args.self.now (cache_of c.forget_file.new.self c.self.inside.unwritten)
+          (g.H.Host.meaning.contents c.args.host.now)
+          (g.H.Host.meaning.contents c.cut.new.self) c.args.file (IsPartlyCut 0) (cut.leads.contents tells)
+          (c.requires.in_step tells)
+          (λ h has. subst (λ (v : CacheValue). Contains v.held h) c.self.view_is (c.forget_file.ensures.held h has))
+          (c.forget_file.ensures.resident ∙ ap (λ (v : CacheValue). without_file c.args.file (names_of v)) c.self.view_is))
+          (c.forget_file.ensures.pages ∙ ap (λ (v : CacheValue). v.pages) c.self.view_is)
+          (λ file has. Contains-tail c.args.file c.args.self.now.unwritten file
+          (subst (λ (v : CacheValue). Contains v.unwritten file) c.self.view_is has)) cut.count cut.refused;
+      rose = search rules;
+      spared = search rules;
+    }
 
-pub returns-clause-writes : goal.returns-clause-writes
-returns-clause-writes g c =
-    writes_file g.H.Host.crashes g.H.Host.tells g.H.Host.contents c.args.file (IsPartlyCut 0) c.args.self.now
-    c.args.host.now (cache_of c.forget_file.new.self c.unmark.new.self) c.cut.new.self c.cut.ensures.images c.cut.ensures.partly c.cut.ensures.told
-    c.len.ensures.sound c.forget_file.ensures.sound
-    (λ tell.
-    let told = subst IsTrue c.cut.ensures.told tell in
-    fits_emptied c.args.self.now (cache_of c.forget_file.new.self c.unmark.new.self) (g.H.Host.contents c.args.host.now)
-    (g.H.Host.contents c.cut.new.self) c.args.file (IsPartlyCut 0) (c.cut.ensures.partly told)
-    (c.requires.in_step told)
-    (λ h has. subst (λ (v : CacheValue). Contains v.held h) c.self.view_is (c.forget_file.ensures.held h has))
-    (c.forget_file.ensures.resident ∙ ap (λ (v : CacheValue). without_file c.args.file (names_of v)) c.self.view_is))
-    (c.forget_file.ensures.pages ∙ ap (λ (v : CacheValue). v.pages) c.self.view_is)
-    (λ file has. Contains-tail c.args.file c.args.self.now.unwritten file
-    (subst (λ (v : CacheValue). Contains v.unwritten file) c.self.view_is ((c.unmark.ensures file).0 has).0))
+pub returns-clause-ran : goal.returns-clause-ran
+returns-clause-ran g c =
+    let cut = c.cut.ensures.ran in
+    record {
+      writes = writes_file {m = g.H.Host.meaning} c.args.file c.args.self.now
+          (cache_of c.forget_file.new.self c.unmark.new.self) cut.leads
+          c.len.ensures.sound c.forget_file.ensures.sound
+          (λ tells.
+          fits_emptied c.args.self.now (cache_of c.forget_file.new.self c.unmark.new.self)
+          (g.H.Host.meaning.contents c.args.host.now)
+          (g.H.Host.meaning.contents c.cut.new.self) c.args.file (IsPartlyCut 0) (cut.leads.contents tells)
+          (c.requires.in_step tells)
+          (λ h has. subst (λ (v : CacheValue). Contains v.held h) c.self.view_is (c.forget_file.ensures.held h has))
+          (c.forget_file.ensures.resident ∙ ap (λ (v : CacheValue). without_file c.args.file (names_of v)) c.self.view_is))
+          (c.forget_file.ensures.pages ∙ ap (λ (v : CacheValue). v.pages) c.self.view_is)
+          (λ file has. Contains-tail c.args.file c.args.self.now.unwritten file
+          (subst (λ (v : CacheValue). Contains v.unwritten file) c.self.view_is ((c.unmark.ensures file).0 has).0))
+          cut.count cut.refused;
+      rose = search rules;
+      spared = search rules;
+    }

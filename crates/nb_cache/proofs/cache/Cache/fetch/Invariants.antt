@@ -3,6 +3,4 @@ use Rattle.nb_cache.proofs.Fetching.{Fetches}
 use Rattle.nb_cache.proofs.cache.Cache.fetch.Given as goal
 
 abbrev pub invariant-loop-name : goal.invariant-loop-name
-invariant-loop-name g l =
-    Fetches g.H.Host.crashes g.H.Host.tells g.H.Host.contents g.H.Host.faults g.H.Host.refused_says l.fn.self l.fn.host
-    (take l.name-index l.names) l.self l.host
+invariant-loop-name g l = Fetches g.H.Host.meaning l.fn.self l.fn.host (take l.name-index l.names) l.self l.host

@@ -1,10 +1,11 @@
-use Rattle.std.proofs.Common.{◌≡◌, ◌*◌, ◌⊎◌, ◌↔◌, inl, inr, [], ◌∷◌, ℕ, List, Contains, IsTrue, length, ap, sym, subst, ◌∙◌, refl}
+use Rattle.std.proofs.Common.{◌≡◌, ◌*◌, ◌⊎◌, ◌↔◌, inl, inr, [], ◌∷◌, ℕ, List, Contains, IsTrue, length, ap, sym, subst, ◌∙◌, refl, arith, rules}
 use Rattle.lru.proofs.Splits.{Contains-head, Contains-tail}
-use Rattle.nb_host.proofs.Stretches.{begins}
+use Rattle.nb_host.proofs.Callers.{leads_none, page_written}
 use Rattle.nb_host.specs.Image.{FileBecomes, IsTorn}
-use Rattle.nb_cache.specs.View.{Held, CacheValue, page_of}
+use Rattle.nb_host.specs.Page.{page_of, page_start}
+use Rattle.nb_cache.specs.View.{Held, CacheValue}
 use Rattle.nb_cache.proofs.Entries.{cache_of}
-use Rattle.nb_cache.proofs.Fitting.{fits_fewer, fits_written, page_written}
+use Rattle.nb_cache.proofs.Fitting.{fits_fewer, fits_written}
 use Rattle.nb_cache.proofs.Writing.{writes_nothing, writes_file}
 use Rattle.nb_cache.proofs.cache.Cache.put.Goals as goal
 
@@ -24,75 +25,85 @@ marked_now file before old now new was is marked =
     subst (λ l. (other : ℕ) → (Contains l other ↔ ((other ≡ file) ⊎ Contains old other))) (sym is)
     (subst (λ l. (other : ℕ) → (Contains now other ↔ ((other ≡ file) ⊎ Contains l other))) was marked)
 
-pub returns-in_err-keep-clause-writes : goal.returns-in_err-keep-clause-writes
-returns-in_err-keep-clause-writes g c =
+pub returns-in_err-keep-clause-ran : goal.returns-in_err-keep-clause-ran
+returns-in_err-keep-clause-ran g c =
     let held : c.keep.new.self.held ≡ c.args.self.now.held =
     c.in_err-keep.ensures.refusal ∙ ap (λ (v : CacheValue). v.held) c.self.view_is in
-    writes_nothing g.H.Host.crashes g.H.Host.tells g.H.Host.contents (c.args.name.file ∷ []) c.args.self.now
-    c.args.host.now c.keep.new.self c.args.host.now (begins g.H.Host.crashes c.args.host.now) refl refl
-    c.len.ensures.sound c.keep.ensures.sound
-    (λ tell. fits_fewer c.args.self.now c.keep.new.self (g.H.Host.contents c.args.host.now) (c.requires.in_step tell)
-    (λ h has. subst (λ l. Contains l h) held has))
-    (c.keep.ensures.pages ∙ ap (λ (v : CacheValue). v.pages) c.self.view_is)
-    (λ file has. one_more c.args.name.file c.self.inside.unwritten c.args.self.now.unwritten c.mark.new.self
-    (ap (λ (v : CacheValue). v.unwritten) c.self.view_is) c.mark.ensures file
-    (subst (λ l. Contains l file) c.keep.ensures.unwritten has))
+    record {
+      writes = writes_nothing {m = g.H.Host.meaning} (c.args.name.file ∷ []) c.args.self.now c.keep.new.self
+          (leads_none g.H.Host.meaning c.args.host.now (λ image. refl))
+          c.len.ensures.sound c.keep.ensures.sound
+          (λ tells. fits_fewer c.args.self.now c.keep.new.self (g.H.Host.meaning.contents c.args.host.now)
+          (c.requires.in_step tells) (λ h has. subst (λ l. Contains l h) held has))
+          (c.keep.ensures.pages ∙ ap (λ (v : CacheValue). v.pages) c.self.view_is)
+          (λ file has. one_more c.args.name.file c.self.inside.unwritten c.args.self.now.unwritten c.mark.new.self
+          (ap (λ (v : CacheValue). v.unwritten) c.self.view_is) c.mark.ensures file
+          (subst (λ l. Contains l file) c.keep.ensures.unwritten has)) (omega arith) refl;
+      rose = search rules;
+      spared = search rules;
+    }
 
-pub returns-in-Ok-clause-writes : goal.returns-in-Ok-clause-writes
-returns-in-Ok-clause-writes g c =
-    writes_file g.H.Host.crashes g.H.Host.tells g.H.Host.contents c.args.name.file
-    (IsTorn (c.args.name.page * 4096) (length c.args.bytes.now)) c.args.self.now c.args.host.now c.keep.new.self
-    c.write_at.new.self c.write_at.ensures.images c.write_at.ensures.torn c.write_at.ensures.told c.len.ensures.sound
-    c.keep.ensures.sound
-    (λ tell.
-    let told = subst IsTrue c.write_at.ensures.told tell in
-    let torn = subst (λ n. FileBecomes c.args.name.file (IsTorn (c.args.name.page * 4096) n)
-    (g.H.Host.contents c.args.host.now) (g.H.Host.contents c.write_at.new.self)) c.requires.page
-    (c.write_at.ensures.torn told) in
-    let written = c.in-Ok.ensures.written told in
-    fits_written c.args.self.now c.keep.new.self (g.H.Host.contents c.args.host.now)
-    (g.H.Host.contents c.write_at.new.self) c.args.name c.args.bytes.now c.requires.name torn c.len.ensures.sound
-    (c.requires.in_step told)
-    (λ h has. elim (c.in_ok-keep.ensures.held h has) [
-      | inl one ↦ inl (
-        one,
-        sym (ap (λ l. page_of l c.args.name.page) written.file
-            ∙ page_written c.args.name.page c.args.bytes.now
-            ((g.H.Host.contents c.args.host.now).file c.args.name.file) c.requires.page),
-      )
-      | inr one ↦ inr (subst (λ (v : CacheValue). Contains v.held h) c.self.view_is one.0, one.1)
-    ]))
-    (c.keep.ensures.pages ∙ ap (λ (v : CacheValue). v.pages) c.self.view_is)
-    (λ file has. one_more c.args.name.file c.self.inside.unwritten c.args.self.now.unwritten c.mark.new.self
-    (ap (λ (v : CacheValue). v.unwritten) c.self.view_is) c.mark.ensures file
-    (subst (λ l. Contains l file) c.keep.ensures.unwritten has))
+pub returns-in-Ok-clause-ran : goal.returns-in-Ok-clause-ran
+returns-in-Ok-clause-ran g c =
+    let wrote = c.write_at.ensures.ran in
+    record {
+      writes = writes_file {m = g.H.Host.meaning} c.args.name.file c.args.self.now c.keep.new.self wrote.leads
+          c.len.ensures.sound c.keep.ensures.sound
+          (λ tells.
+          let torn = subst (λ n. FileBecomes c.args.name.file (IsTorn (page_start c.args.name.page) n)
+          (g.H.Host.meaning.contents c.args.host.now) (g.H.Host.meaning.contents c.write_at.new.self)) c.requires.page
+          (wrote.leads.contents tells) in
+          let written = c.in-Ok.ensures.written tells in
+          fits_written c.args.self.now c.keep.new.self (g.H.Host.meaning.contents c.args.host.now)
+          (g.H.Host.meaning.contents c.write_at.new.self) c.args.name c.args.bytes.now c.requires.name torn
+          c.len.ensures.sound (c.requires.in_step tells)
+          (λ h has. elim (c.in_ok-keep.ensures.held h has) [
+            | inl one ↦ inl (
+              one,
+              sym (ap (λ l. page_of l c.args.name.page) written.file
+                  ∙ page_written c.args.name.page c.args.bytes.now
+                  ((g.H.Host.meaning.contents c.args.host.now).file c.args.name.file) c.requires.page),
+            )
+            | inr one ↦ inr (subst (λ (v : CacheValue). Contains v.held h) c.self.view_is one.0, one.1)
+          ]))
+          (c.keep.ensures.pages ∙ ap (λ (v : CacheValue). v.pages) c.self.view_is)
+          (λ file has. one_more c.args.name.file c.self.inside.unwritten c.args.self.now.unwritten c.mark.new.self
+          (ap (λ (v : CacheValue). v.unwritten) c.self.view_is) c.mark.ensures file
+          (subst (λ l. Contains l file) c.keep.ensures.unwritten has)) wrote.count wrote.refused;
+      rose = search rules;
+      spared = search rules;
+    }
 
-pub returns-in-Err-clause-writes : goal.returns-in-Err-clause-writes
-returns-in-Err-clause-writes g c =
-    writes_file g.H.Host.crashes g.H.Host.tells g.H.Host.contents c.args.name.file
-    (IsTorn (c.args.name.page * 4096) (length c.args.bytes.now)) c.args.self.now c.args.host.now
-    (cache_of c.forget.new.self c.self-2.inside.unwritten)
-    c.write_at.new.self c.write_at.ensures.images c.write_at.ensures.torn c.write_at.ensures.told c.len.ensures.sound
-    c.forget.ensures.sound
-    (λ tell.
-    let told = subst IsTrue c.write_at.ensures.told tell in
-    let torn = subst (λ n. FileBecomes c.args.name.file (IsTorn (c.args.name.page * 4096) n)
-    (g.H.Host.contents c.args.host.now) (g.H.Host.contents c.write_at.new.self)) c.requires.page
-    (c.write_at.ensures.torn told) in
-    fits_written c.args.self.now (cache_of c.forget.new.self c.self-2.inside.unwritten) (g.H.Host.contents c.args.host.now)
-    (g.H.Host.contents c.write_at.new.self) c.args.name c.args.bytes.now c.requires.name torn c.len.ensures.sound
-    (c.requires.in_step told)
-    (λ h has.
-    let left = c.forget.ensures.held h has in
-    elim (c.in_ok-keep.ensures.held h (subst (λ (v : CacheValue). Contains v.held h) c.self-2.view_is left.0)) [
-      | inl one ↦ absurd (left.1 (ap (λ (e : Held). e.name) one))
-      | inr one ↦ inr (subst (λ (v : CacheValue). Contains v.held h) c.self.view_is one.0, one.1)
-    ]))
-    (c.forget.ensures.pages ∙ ap (λ (v : CacheValue). v.pages) c.self-2.view_is ∙ c.keep.ensures.pages
-    ∙ ap (λ (v : CacheValue). v.pages) c.self.view_is)
-    (λ file has. one_more c.args.name.file c.self.inside.unwritten c.args.self.now.unwritten c.mark.new.self
-    (ap (λ (v : CacheValue). v.unwritten) c.self.view_is) c.mark.ensures file
-    (subst (λ l. Contains l file) (ap (λ (v : CacheValue). v.unwritten) c.self-2.view_is ∙ c.keep.ensures.unwritten) has))
+pub returns-in-Err-clause-ran : goal.returns-in-Err-clause-ran
+returns-in-Err-clause-ran g c =
+    let wrote = c.write_at.ensures.ran in
+    record {
+      writes = writes_file {m = g.H.Host.meaning} c.args.name.file c.args.self.now
+          (cache_of c.forget.new.self c.self-2.inside.unwritten) wrote.leads
+          c.len.ensures.sound c.forget.ensures.sound
+          (λ tells.
+          let torn = subst (λ n. FileBecomes c.args.name.file (IsTorn (page_start c.args.name.page) n)
+          (g.H.Host.meaning.contents c.args.host.now) (g.H.Host.meaning.contents c.write_at.new.self)) c.requires.page
+          (wrote.leads.contents tells) in
+          fits_written c.args.self.now (cache_of c.forget.new.self c.self-2.inside.unwritten)
+          (g.H.Host.meaning.contents c.args.host.now)
+          (g.H.Host.meaning.contents c.write_at.new.self) c.args.name c.args.bytes.now c.requires.name torn
+          c.len.ensures.sound (c.requires.in_step tells)
+          (λ h has.
+          let left = c.forget.ensures.held h has in
+          elim (c.in_ok-keep.ensures.held h (subst (λ (v : CacheValue). Contains v.held h) c.self-2.view_is left.0)) [
+            | inl one ↦ absurd (left.1 (ap (λ (e : Held). e.name) one))
+            | inr one ↦ inr (subst (λ (v : CacheValue). Contains v.held h) c.self.view_is one.0, one.1)
+          ]))
+          (c.forget.ensures.pages ∙ ap (λ (v : CacheValue). v.pages) c.self-2.view_is ∙ c.keep.ensures.pages
+          ∙ ap (λ (v : CacheValue). v.pages) c.self.view_is)
+          (λ file has. one_more c.args.name.file c.self.inside.unwritten c.args.self.now.unwritten c.mark.new.self
+          (ap (λ (v : CacheValue). v.unwritten) c.self.view_is) c.mark.ensures file
+          (subst (λ l. Contains l file) (ap (λ (v : CacheValue). v.unwritten) c.self-2.view_is ∙ c.keep.ensures.unwritten) has))
+          wrote.count wrote.refused;
+      rose = search rules;
+      spared = search rules;
+    }
 
 pub returns-in_err-keep-clause-unwritten : goal.returns-in_err-keep-clause-unwritten
 returns-in_err-keep-clause-unwritten g c =
