@@ -1,9 +1,10 @@
-pub mod Adding
-pub mod Following
-pub mod Growing
-pub mod Inserting
-pub mod Looking
-pub mod Making
-pub mod Paging
-pub mod Reaching
-pub mod Writing
+mod Additions
+pub mod Callers
+mod Calls
+mod EmptyPages
+mod Growth
+mod Insertions
+mod Looks
+mod Pages
+mod Reach
+mod Ways

@@ -1,6 +1,7 @@
 //! A resident page of a file of cells, as a search sees it.
 
 ghost use Rattle.std.specs.Prelude.{◌≡◌, ◌==◌, if◌then◌else◌, Some, None, length};
+ghost use Rattle.nb_host.specs.declared.page_name.TheConstants.{PAGE_SIZE};
 
 use nb_record::{BodyPage, CellPage, Lender, PageError};
 
@@ -9,7 +10,7 @@ use nb_record::{BodyPage, CellPage, Lender, PageError};
 pub(crate) struct Shown<'a> {
     pub(crate) page: u64,
     pub(crate) bytes: &'a [u8],
-    ghost whole: { length bytes.now ≡ 4096 },
+    ghost whole: { length bytes.now ≡ PAGE_SIZE },
 }
 
 impl<'a> Lender for Shown<'a> {

@@ -1,61 +1,63 @@
 //! The table of cells.
 
-ghost use Rattle.std.specs.Prelude.{◌≡◌, ◌≢◌, ℕ, ◌+◌, ◌*◌, ◌%◌, ◌^◌, ◌<◌, ◌≤◌, ◌⊎◌};
-ghost use Rattle.std.specs.Prelude.{List, [], ◌∷◌, ◌++◌, length, take, Contains, All};
+ghost use Rattle.std.specs.Prelude.{◌≡◌, ◌≢◌, ◌+◌, ◌%◌, ◌^◌, ◌<◌, ◌≤◌, [], ◌∷◌, length, Contains};
 ghost use Rattle.std.specs.Prelude.{IsTrue, unwrap_or, IfSome, IsOk, IfOk, IfErr, OnOk, OnErr, Err};
+ghost use Rattle.nb_host.specs.Image.{Image, IsOverwritten};
+ghost use Rattle.nb_host.specs.Page.{page_of, page_start};
 ghost use Rattle.nb_host.specs.declared.page_name.PageName.{PageName as PageNames};
-ghost use Rattle.nb_host.specs.Faults.{CountsFault};
-ghost use Rattle.nb_host.specs.Image.{Image, overwritten};
-ghost use Rattle.nb_cache.specs.Errors.{of_host as as_cache};
-ghost use Rattle.nb_cache.specs.InStep.{IsInStep, Fits};
-ghost use Rattle.nb_cache.specs.View.{names_of, view_of};
-ghost use Rattle.nb_cache.specs.Writes.{Writes};
-ghost use Rattle.nb_record.specs.declared.cell.Cell.{Cell as Cells};
-ghost use Rattle.nb_record.specs.Order.{page_of};
+ghost use Rattle.nb_cache.specs.InStep.{IsCachedFile, IsCacheable, IsInStep, Fits};
+ghost use Rattle.nb_cache.specs.View.{names_of, view_of, seen, Seen, Same};
+ghost use Rattle.nb_cache.specs.Writes.{RanCached};
 ghost use Rattle.nb_record.specs.Pages.{page_count, IsCellPage};
 ghost use Rattle.nb_record.specs.Records.{IsCell};
 ghost use Rattle.nb_record.specs.Table.{next_of, IsCellTable};
-ghost use Rattle.nb_cell.specs.Chains.{LeadsPast, IsLastOfChain, IsNewPage, IsAppended};
-ghost use Rattle.nb_cell.specs.Errors.{CountsCellFault};
+ghost use Rattle.nb_record.specs.Writing.{IsZeroPaddedFile};
+ghost use Rattle.nb_cell.specs.Chains.{first_page, LeadsPast, EndsAt, HasNewPage};
+ghost use Rattle.nb_cell.specs.Insertions.{Grows, HasInserted, HasKept, IsDamaged};
 
 use crate::cell_error::CellError;
 use crate::shown::Shown;
 use nb_cache::{Cache, CacheError};
-use nb_host::{Host, HostError, PageName};
+use nb_host::{Host, HostError, PAGE_SIZE, PageName};
 use nb_key::Key;
 use nb_record::{
-    CELLS_PER_PAGE, Cell, CellPage, Look, PAGE_SIZE, add_cell, begin_cell_page, look, set_next,
+    CELL_SIZE, CELLS_PER_PAGE, Cell, CellPage, Look, add_cell, begin_cell_page, look, set_next,
 };
+
+/// The most bits of a key that name the page at which its chain begins.
+pub const MOST_BITS: u32 = 18;
 
 /// A table of cells in a file of pages: the file's number, how many bits of a key name the page at which its
 /// chain begins, and how many pages the file has.
 #[derive(Clone, Copy, PartialEq, Eq, Debug)]
 pub struct CellTable {
+    /// The file's number.
     pub file: u64,
+    /// How many low bits of a key name the page at which its chain begins.
     pub bits: u32,
+    /// How many pages the file has.
     pub pages: u64,
 }
 
 impl CellTable {
-    /// Empties the file and makes it a table without cells, whose chains have one page each. After a refusal
-    /// the file may hold anything.
+    /// Empties the file and makes it a table without cells, whose chains have one page each, with zeros
+    /// behind its header. After a refusal the file may hold anything.
     pub fn make<H: Host>(
         host: &mut H,
         cache: &mut Cache,
         file: u64,
         bits: u32,
     ) -> Result<CellTable, HostError>
-        requires least { 3 ≤ file }
-        requires greatest { file ≤ 7 }
-        requires bits { bits ≤ 18 }
-        requires in_step { IsInStep H.tells H.contents cache.old host.old }
+        requires cached { IsCachedFile file }
+        requires bits { bits ≤ MOST_BITS }
+        requires in_step { IsInStep H.meaning cache.old host.old }
         ensures value { IfOk result (λ t. t ≡ record { file = file; bits = bits; pages = 2 ^ bits }) }
-        ensures table { OnOk result (IsTrue (H.tells host.old)
-            → IsCellTable (view_of cache.new (H.contents host.new) file) bits (2 ^ bits) []) }
-        ensures writes { Writes H.crashes H.tells H.contents (file ∷ []) cache.old host.old cache.new
-            host.new }
-        ensures fault { CountsFault (H.faults host.old) (H.faults host.new) result }
-        ensures refused { H.refused_says host.new ≡ H.refused_says host.old }
+        ensures table { OnOk result (IsTrue H.meaning.tells
+            → IsCellTable (seen H.meaning cache.new host.new file) bits (2 ^ bits) []) }
+        ensures padded { OnOk result (IsTrue H.meaning.tells
+            → IsZeroPaddedFile CELL_SIZE (seen H.meaning cache.new host.new file)) }
+        ensures ran { RanCached H.meaning HostError.Fault (file ∷ []) cache.old host.old
+            cache.new host.new result }
     {
         let pages = chain_count(bits);
         of_host(cache.empty(host, file))?;
@@ -78,63 +80,22 @@ impl CellTable {
         cache: &mut Cache,
         cell: &Cell,
     ) -> Result<(), CellError>
-        requires least { 3 ≤ self.old.file }
-        requires greatest { self.old.file ≤ 7 }
-        requires bits { self.old.bits ≤ 18 }
-        requires pages { self.old.pages < 2 ^ 48 }
+        requires room { IsCacheable (record { file = self.old.file; page = self.old.pages }) }
+        requires bits { self.old.bits ≤ MOST_BITS }
         requires cell { IsCell cell.now }
-        requires in_step { IsInStep H.tells H.contents cache.old host.old }
-        ensures table { OnOk result (IsTrue (H.tells host.old) → (cells : List Cells)
-            → IsCellTable (view_of cache.old (H.contents host.old) self.old.file) self.old.bits
-            self.old.pages cells
-            → All (λ c. c.key ≢ cell.now.key) cells
-            → IsCellTable (view_of cache.new (H.contents host.new) self.old.file) self.new.bits self.new.pages
-            (cells ++ cell.now ∷ [])) }
-        ensures place { OnOk result (IsTrue (H.tells host.old) → (cells : List Cells)
-            → IsCellTable (view_of cache.old (H.contents host.old) self.old.file) self.old.bits
-            self.old.pages cells
-            → (page : ℕ)
-            → IsLastOfChain (view_of cache.old (H.contents host.old) self.old.file) self.old.pages
-            (cell.now.key % 2 ^ self.old.bits) page
-            → IsAppended (view_of cache.old (H.contents host.old) self.old.file)
-            (view_of cache.new (H.contents host.new) self.old.file) self.old.pages self.new.pages
-            (cell.now.key % 2 ^ self.old.bits) page cell.now) }
-        ensures kept { IfErr result (λ error. error ≢ CellError.Fault → IsTrue (H.tells host.old)
-            → (cells : List Cells)
-            → IsCellTable (view_of cache.old (H.contents host.old) self.old.file) self.old.bits
-            self.old.pages cells
-            → take (4096 * self.old.pages) (view_of cache.new (H.contents host.new) self.old.file)
-            ≡ view_of cache.old (H.contents host.old) self.old.file) }
-        ensures stays { IfErr result (λ error. error ≢ CellError.Fault → IsTrue (H.tells host.old)
-            → (view_of cache.new (H.contents host.new) self.old.file
-            ≡ view_of cache.old (H.contents host.old) self.old.file)
-            ⊎ ((bytes : List ℕ) × (length bytes ≡ 4096)
-            × (view_of cache.new (H.contents host.new) self.old.file
-            ≡ overwritten (self.old.pages * 4096) bytes
-            (view_of cache.old (H.contents host.old) self.old.file)))) }
-        ensures unchanged { (name : PageNames) → result ≡ Err (CellError.Damaged name)
-            → IsTrue (H.tells host.old)
-            → view_of cache.new (H.contents host.new) self.old.file
-            ≡ view_of cache.old (H.contents host.old) self.old.file }
-        ensures file { self.new.file ≡ self.old.file }
-        ensures bits { self.new.bits ≡ self.old.bits }
-        ensures pages { (self.new.pages ≡ self.old.pages) ⊎ (self.new.pages ≡ self.old.pages + 1) }
-        ensures refusal { OnErr result (self.new ≡ self.old) }
-        ensures page { (name : PageNames) → result ≡ Err (CellError.Damaged name)
-            → name.file ≡ self.old.file }
-        ensures cause { (name : PageNames) → result ≡ Err (CellError.Damaged name) → IsTrue (H.tells host.old)
-            → (self.old.pages ≤ name.page)
-            ⊎ (LeadsPast (view_of cache.old (H.contents host.old) self.old.file) self.old.pages
-            cell.now.key name.page → ⊥) }
+        requires in_step { IsInStep H.meaning cache.old host.old }
+        ensures inserted { OnOk result (Seen H.meaning self.old.file (HasInserted self.old self.new cell.now)
+            cache.old host.old cache.new host.new) }
+        ensures kept { IfErr result (λ error. error ≢ CellError.Fault
+            → Seen H.meaning self.old.file (HasKept self.old) cache.old host.old cache.new host.new) }
         ensures damaged { (name : PageNames) → result ≡ Err (CellError.Damaged name)
-            → IsTrue (H.tells host.old) → (cells : List Cells)
-            → IsCellTable (view_of cache.old (H.contents host.old) self.old.file) self.old.bits
-            self.old.pages cells
-            → All (λ c. c.key ≢ cell.now.key) cells → ⊥ }
-        ensures writes { Writes H.crashes H.tells H.contents (self.old.file ∷ []) cache.old host.old
-            cache.new host.new }
-        ensures fault { CountsCellFault (H.faults host.old) (H.faults host.new) result }
-        ensures refused { H.refused_says host.new ≡ H.refused_says host.old }
+            → IsDamaged H.meaning self.old cell.now.key cache.old host.old name }
+        ensures unchanged { (name : PageNames) → result ≡ Err (CellError.Damaged name)
+            → Seen H.meaning self.old.file Same cache.old host.old cache.new host.new }
+        ensures value { Grows self.old self.new }
+        ensures refusal { OnErr result (self.new ≡ self.old) }
+        ensures ran { RanCached H.meaning CellError.Fault (self.old.file ∷ []) cache.old host.old
+            cache.new host.new result }
     {
         let last = self.last_page(host, cache, cell.key)?;
         let mut bytes = [0; PAGE_SIZE];
@@ -157,33 +118,18 @@ impl CellTable {
         cache: &mut Cache,
         key: Key,
     ) -> Result<u64, CellError>
-        requires least { 3 ≤ self.now.file }
-        requires greatest { self.now.file ≤ 7 }
-        requires bits { self.now.bits ≤ 18 }
-        requires pages { self.now.pages < 2 ^ 48 }
-        requires in_step { IsInStep H.tells H.contents cache.old host.old }
+        requires room { IsCacheable (record { file = self.now.file; page = self.now.pages }) }
+        requires bits { self.now.bits ≤ MOST_BITS }
+        requires in_step { IsInStep H.meaning cache.old host.old }
         ensures within { IfOk result (λ page. page < self.now.pages) }
         ensures resident { IfOk result (λ page.
             Contains (names_of cache.new) (record { file = self.now.file; page = page })) }
-        ensures last { IfOk result (λ page. IsTrue (H.tells host.old) → (cells : List Cells)
-            → IsCellTable (view_of cache.old (H.contents host.old) self.now.file) self.now.bits
-            self.now.pages cells
-            → IsLastOfChain (view_of cache.old (H.contents host.old) self.now.file) self.now.pages
-            (key % 2 ^ self.now.bits) page) }
-        ensures page { (name : PageNames) → result ≡ Err (CellError.Damaged name)
-            → name.file ≡ self.now.file }
-        ensures cause { (name : PageNames) → result ≡ Err (CellError.Damaged name) → IsTrue (H.tells host.old)
-            → (self.now.pages ≤ name.page)
-            ⊎ (LeadsPast (view_of cache.old (H.contents host.old) self.now.file) self.now.pages key name.page
-            → ⊥) }
+        ensures ends { IfOk result (λ page. IsTrue H.meaning.tells
+            → EndsAt (seen H.meaning cache.old host.old self.now.file) self.now.pages key
+            (first_page self.now.bits key) page) }
         ensures damaged { (name : PageNames) → result ≡ Err (CellError.Damaged name)
-            → IsTrue (H.tells host.old) → (cells : List Cells)
-            → IsCellTable (view_of cache.old (H.contents host.old) self.now.file) self.now.bits
-            self.now.pages cells
-            → All (λ c. c.key ≢ key) cells → ⊥ }
-        ensures writes { Writes H.crashes H.tells H.contents [] cache.old host.old cache.new host.new }
-        ensures fault { CountsCellFault (H.faults host.old) (H.faults host.new) result }
-        ensures refused { H.refused_says host.new ≡ H.refused_says host.old }
+            → IsDamaged H.meaning self.now key cache.old host.old name }
+        ensures ran { RanCached H.meaning CellError.Fault [] cache.old host.old cache.new host.new result }
     {
         let mut page = key.number() % chain_count(self.bits);
         if page >= self.pages {
@@ -197,8 +143,8 @@ impl CellTable {
         }
     }
 
-    /// Makes a page of the chain of a key resident, and answers its next page, if it has one. The table lacks
-    /// the key.
+    /// Looks for a key on a page, which is resident then, and answers its next page, if it has one. A page
+    /// that doesn't lead past is damaged.
     fn next_page<H: Host>(
         &self,
         host: &mut H,
@@ -206,26 +152,25 @@ impl CellTable {
         key: Key,
         page: u64,
     ) -> Result<Option<u64>, CellError>
-        requires least { 3 ≤ self.now.file }
-        requires greatest { self.now.file ≤ 7 }
-        requires page { page < 2 ^ 48 }
-        requires in_step { IsInStep H.tells H.contents cache.old host.old }
+        requires room { IsCacheable (record { file = self.now.file; page = self.now.pages }) }
+        requires within { page < self.now.pages }
+        requires in_step { IsInStep H.meaning cache.old host.old }
         ensures resident { OnOk result
             (Contains (names_of cache.new) (record { file = self.now.file; page = page })) }
         ensures later { IfOk result (λ next. IfSome next (λ next. (page < next) × (next < self.now.pages))) }
-        ensures next { IsTrue (H.tells host.old) → IfOk result (λ next.
-            next_of (view_of cache.old (H.contents host.old) self.now.file) page ≡ unwrap_or next 0) }
-        ensures page { (name : PageNames) → result ≡ Err (CellError.Damaged name)
+        ensures past { OnOk result (IsTrue H.meaning.tells
+            → LeadsPast (seen H.meaning cache.old host.old self.now.file) self.now.pages key page) }
+        ensures next { IfOk result (λ next. IsTrue H.meaning.tells
+            → next_of (seen H.meaning cache.old host.old self.now.file) page ≡ unwrap_or next 0) }
+        ensures named { (name : PageNames) → result ≡ Err (CellError.Damaged name)
             → name ≡ record { file = self.now.file; page = page } }
         ensures damaged { (name : PageNames) → result ≡ Err (CellError.Damaged name)
-            → IsTrue (H.tells host.old)
-            → LeadsPast (view_of cache.old (H.contents host.old) self.now.file) self.now.pages key page → ⊥ }
-        ensures writes { Writes H.crashes H.tells H.contents [] cache.old host.old cache.new host.new }
-        ensures fault { CountsCellFault (H.faults host.old) (H.faults host.new) result }
-        ensures refused { H.refused_says host.new ≡ H.refused_says host.old }
+            → IsTrue H.meaning.tells
+            → LeadsPast (seen H.meaning cache.old host.old self.now.file) self.now.pages key page → ⊥ }
+        ensures ran { RanCached H.meaning CellError.Fault [] cache.old host.old cache.new host.new result }
     {
         let name = self.name(page);
-        let _ = cache.pages();
+        prove!(cache.pages() > 0);
         cache.fetch(host, &[name])?;
         let bytes = cache.lent(name).unwrap();
         let shown = Shown { page, bytes };
@@ -244,13 +189,13 @@ impl CellTable {
     /// Copies the bytes of a resident page, and answers how many cells it has.
     fn copy_page(&self, cache: &Cache, page: u64, into: &mut [u8]) -> Result<u64, CellError>
         requires resident { Contains (names_of cache.now) (record { file = self.now.file; page = page }) }
-        requires size { length into.old ≡ 4096 }
-        ensures size { length into.new ≡ 4096 }
+        requires size { length into.old ≡ PAGE_SIZE }
+        ensures size { length into.new ≡ PAGE_SIZE }
         ensures form { OnOk result (IsCellPage page into.new) }
         ensures count { IfOk result (λ count. count ≡ page_count into.new) }
         ensures view { OnOk result ((image : Image) → Fits cache.now image
             → into.new ≡ page_of (view_of cache.now image self.now.file) page) }
-        ensures page { IfErr result (λ error. error
+        ensures named { IfErr result (λ error. error
             ≡ CellError.Damaged (record { file = self.now.file; page = page })) }
         ensures damaged { OnErr result ((image : Image) → Fits cache.now image
             → IsCellPage page (page_of (view_of cache.now image self.now.file) page) → ⊥) }
@@ -273,23 +218,15 @@ impl CellTable {
         cache: &mut Cache,
         cell: &Cell,
     ) -> Result<(), CellError>
-        requires least { 3 ≤ self.now.file }
-        requires greatest { self.now.file ≤ 7 }
-        requires pages { self.now.pages < 2 ^ 48 }
-        requires in_step { IsInStep H.tells H.contents cache.old host.old }
-        ensures added { OnOk result (IsTrue (H.tells host.old) → (bytes : List ℕ)
-            × IsNewPage self.now.pages cell.now bytes
-            × (view_of cache.new (H.contents host.new) self.now.file
-            ≡ overwritten (self.now.pages * 4096) bytes
-            (view_of cache.old (H.contents host.old) self.now.file))) }
-        ensures kept { IfErr result (λ error. error ≢ CellError.Fault → IsTrue (H.tells host.old)
-            → view_of cache.new (H.contents host.new) self.now.file
-            ≡ view_of cache.old (H.contents host.old) self.now.file) }
+        requires room { IsCacheable (record { file = self.now.file; page = self.now.pages }) }
+        requires in_step { IsInStep H.meaning cache.old host.old }
+        ensures added { OnOk result (Seen H.meaning self.now.file (HasNewPage self.now.pages cell.now)
+            cache.old host.old cache.new host.new) }
+        ensures kept { IfErr result (λ error. error ≢ CellError.Fault
+            → Seen H.meaning self.now.file Same cache.old host.old cache.new host.new) }
         ensures host_refusal { (name : PageNames) → result ≢ Err (CellError.Damaged name) }
-        ensures writes { Writes H.crashes H.tells H.contents (self.now.file ∷ []) cache.old host.old cache.new
-            host.new }
-        ensures fault { CountsCellFault (H.faults host.old) (H.faults host.new) result }
-        ensures refused { H.refused_says host.new ≡ H.refused_says host.old }
+        ensures ran { RanCached H.meaning CellError.Fault (self.now.file ∷ []) cache.old host.old
+            cache.new host.new result }
     {
         let mut added = [0; PAGE_SIZE];
         begin_cell_page(&mut added, self.pages);
@@ -305,22 +242,16 @@ impl CellTable {
         page: u64,
         bytes: &[u8],
     ) -> Result<(), CellError>
-        requires least { 3 ≤ self.now.file }
-        requires greatest { self.now.file ≤ 7 }
-        requires page { page < 2 ^ 48 }
-        requires size { length bytes.now ≡ 4096 }
-        requires in_step { IsInStep H.tells H.contents cache.old host.old }
-        ensures view { OnOk result (IsTrue (H.tells host.old)
-            → view_of cache.new (H.contents host.new) self.now.file
-            ≡ overwritten (page * 4096) bytes.now (view_of cache.old (H.contents host.old) self.now.file)) }
-        ensures kept { IfErr result (λ error. error ≢ CellError.Fault → IsTrue (H.tells host.old)
-            → view_of cache.new (H.contents host.new) self.now.file
-            ≡ view_of cache.old (H.contents host.old) self.now.file) }
+        requires room { IsCacheable (record { file = self.now.file; page = page }) }
+        requires size { length bytes.now ≡ PAGE_SIZE }
+        requires in_step { IsInStep H.meaning cache.old host.old }
+        ensures put { OnOk result (Seen H.meaning self.now.file (IsOverwritten (page_start page) bytes.now)
+            cache.old host.old cache.new host.new) }
+        ensures kept { IfErr result (λ error. error ≢ CellError.Fault
+            → Seen H.meaning self.now.file Same cache.old host.old cache.new host.new) }
         ensures host_refusal { (name : PageNames) → result ≢ Err (CellError.Damaged name) }
-        ensures writes { Writes H.crashes H.tells H.contents (self.now.file ∷ []) cache.old host.old cache.new
-            host.new }
-        ensures fault { CountsCellFault (H.faults host.old) (H.faults host.new) result }
-        ensures refused { H.refused_says host.new ≡ H.refused_says host.old }
+        ensures ran { RanCached H.meaning CellError.Fault (self.now.file ∷ []) cache.old host.old
+            cache.new host.new result }
     {
         cache.put(host, self.name(page), bytes)?;
         Ok(())
@@ -339,24 +270,23 @@ impl CellTable {
 
 /// How many chains a table has whose keys have so many bits that name them.
 fn chain_count(bits: u32) -> u64
-    requires { bits ≤ 18 }
+    requires { bits ≤ MOST_BITS }
     ensures value { result ≡ 2 ^ bits }
     ensures some { 0 < result }
-    ensures most { result ≤ 2 ^ 18 }
+    ensures most { result ≤ 2 ^ MOST_BITS }
 {
     1 << bits
 }
 
-/// What a call that reads no page answered: the cache refuses it for the host's reasons alone.
+/// What a call answered that reads no page, and so is never answered that one is short: the host's reason.
 fn of_host(outcome: Result<(), CacheError>) -> Result<(), HostError>
     requires { (name : PageNames) → outcome ≢ Err (CacheError.Short name) }
     ensures done { OnOk result (IsOk outcome) }
-    ensures refused { IfErr result (λ error. outcome ≡ Err (as_cache error)) }
+    ensures fault { result ≡ Err HostError.Fault → outcome ≡ Err CacheError.Fault }
 {
     match outcome {
         Ok(()) => Ok(()),
         Err(CacheError::Fault) => Err(HostError::Fault),
-        Err(CacheError::NoMemory) => Err(HostError::NoMemory),
-        Err(CacheError::Short(_)) => unreachable!(),
+        Err(CacheError::NoMemory | CacheError::Short(_)) => Err(HostError::NoMemory),
     }
 }

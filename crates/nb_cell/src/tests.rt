@@ -1,17 +1,17 @@
 //! Tables with known answers.
 
 ghost use Rattle.std.specs.Prelude.{◌≡◌, ◌<◌, ◌≤◌, IfSome};
-ghost use Rattle.nb_cache.specs.InStep.{IsInStep};
+ghost use Rattle.nb_cache.specs.InStep.{IsCachedFile, IsInStep};
 ghost use Rattle.nb_record.specs.Records.{IsCell};
 
 use crate::cell_error::CellError;
 use crate::shown::Shown;
-use crate::table::CellTable;
+use crate::table::{CellTable, MOST_BITS};
 use nb_cache::Cache;
-use nb_host::{Host, MemoryHost, PageName};
+use nb_host::{Host, MemoryHost, PAGE_SIZE, PageName};
 use nb_key::Key;
 use nb_model::At;
-use nb_record::{Cell, CellPage, Look, PAGE_SIZE, begin_cell_page, look, set_next};
+use nb_record::{Cell, CellPage, Look, begin_cell_page, look, set_next};
 use std::alloc::Global;
 use std::process::Abort;
 use std::test::Fail;
@@ -58,13 +58,12 @@ fn insert_keys<H: Host>(
     from: u64,
     to: u64,
 ) -> Result<(), Fail>
-    requires least { 3 ≤ table.old.file }
-    requires greatest { table.old.file ≤ 7 }
-    requires bits { table.old.bits ≤ 18 }
-    requires in_step { IsInStep H.tells H.contents cache.old host.old }
+    requires cached { IsCachedFile table.old.file }
+    requires bits { table.old.bits ≤ MOST_BITS }
+    requires in_step { IsInStep H.meaning cache.old host.old }
     ensures file { table.new.file ≡ table.old.file }
     ensures bits { table.new.bits ≡ table.old.bits }
-    ensures in_step { IsInStep H.tells H.contents cache.new host.new }
+    ensures in_step { IsInStep H.meaning cache.new host.new }
 {
     for number in from..to {
         if table.pages >= 1 << 20 {
@@ -156,10 +155,16 @@ fn more_chains_than_pages_in_the_cache(rt: HostRuntime) -> Result<(), Fail> {
     Ok(())
 }
 
-/// What an insert into a table of one page answers, whose page 0 is these bytes.
-fn insert_on(alloc: Global, page: &[u8; PAGE_SIZE]) -> Result<Result<(), CellError>, Fail> {
+/// What an insert of key 8 answers into a table of one page, and how many pages the table has then. Its file
+/// holds these bytes, and the host calls with these numbers fail.
+fn insert_on(
+    alloc: Global,
+    bytes: &[u8],
+    failing: &[u64],
+) -> Result<(Result<(), CellError>, u64), Fail> {
     let mut host = MemoryHost::new(alloc);
-    host.with_file(FILE, page)?;
+    host.with_file(FILE, bytes)?;
+    host.fail_at(failing)?;
     let mut cache = Cache::new(alloc, 4)?;
     let mut table = CellTable {
         file: FILE,
@@ -167,7 +172,8 @@ fn insert_on(alloc: Global, page: &[u8; PAGE_SIZE]) -> Result<Result<(), CellErr
         pages: 1,
     };
     let cell = cell(8).ok_or("a key")?;
-    Ok(table.insert(&mut host, &mut cache, &cell))
+    let answer = table.insert(&mut host, &mut cache, &cell);
+    Ok((answer, table.pages))
 }
 
 #[test]
@@ -175,36 +181,51 @@ fn pages_that_are_damaged(rt: HostRuntime) -> Result<(), Fail> {
     let alloc = rt.alloc();
     let damaged = Err(CellError::Damaged(name(0)));
     let mut page = [0; PAGE_SIZE];
-    assert_eq!(rt; insert_on(alloc, &page)?, Ok(()));
-    page[8] = 64;
-    assert_eq!(rt; insert_on(alloc, &page)?, damaged, "too many cells");
+    let (answer, _) = insert_on(alloc, &page[1..], &[])?;
+    assert_eq!(rt; answer, damaged, "a file that ends before its page does");
     begin_cell_page(&mut page, 1);
-    assert_eq!(rt; insert_on(alloc, &page)?, damaged, "another page's number");
+    let (answer, _) = insert_on(alloc, &page, &[])?;
+    assert_eq!(rt; answer, damaged, "another page's number");
     begin_cell_page(&mut page, 0);
     set_next(&mut page, 1);
-    assert_eq!(rt;
-        insert_on(alloc, &page)?,
-        damaged,
-        "a next page outside the table"
-    );
+    let (answer, pages) = insert_on(alloc, &page, &[])?;
+    assert_eq!(rt; answer, damaged, "a next page outside the table");
+    assert_eq!(rt; pages, 1);
     Ok(())
 }
 
 #[test]
-fn a_page_that_ends_with_its_file(rt: HostRuntime) -> Result<(), Fail> {
+fn a_damaged_page_in_the_cache(rt: HostRuntime) -> Result<(), Fail> {
     let alloc = rt.alloc();
     let mut host = MemoryHost::new(alloc);
-    host.with_file(FILE, &[0; PAGE_SIZE - 1])?;
     let mut cache = Cache::new(alloc, 4)?;
+    let mut page = [0; PAGE_SIZE];
+    page[8] = 64;
+    assert_eq!(rt; cache.put(&mut host, name(0), &page), Ok(()));
     let mut table = CellTable {
         file: FILE,
         bits: 0,
         pages: 1,
     };
     let cell = cell(8).ok_or("a key")?;
-    assert_eq!(rt;
-        table.insert(&mut host, &mut cache, &cell),
-        Err(CellError::Damaged(name(0)))
-    );
+    let answer = table.insert(&mut host, &mut cache, &cell);
+    assert_eq!(rt; answer, Err(CellError::Damaged(name(0))));
+    Ok(())
+}
+
+#[test]
+fn a_full_page_and_calls_that_fail(rt: HostRuntime) -> Result<(), Fail> {
+    let alloc = rt.alloc();
+    let mut page = [0; PAGE_SIZE];
+    page[8] = 63;
+    let (answer, pages) = insert_on(alloc, &page, &[])?;
+    assert_eq!(rt; answer, Ok(()));
+    assert_eq!(rt; pages, 2);
+    // The page is read, the new one put, and then the page that leads to it.
+    for call in 1..4 {
+        let (answer, pages) = insert_on(alloc, &page, &[call])?;
+        assert_eq!(rt; answer, Err(CellError::Fault), "call {call}");
+        assert_eq!(rt; pages, 1, "call {call}");
+    }
     Ok(())
 }

@@ -5,4 +5,4 @@ use Rattle.nb_cell.proofs.tests.insert_keys.Given as goal
 abbrev pub invariant-loop-number : goal.invariant-loop-number
 invariant-loop-number g l =
     (l.table.file ≡ l.fn.table.file) × (l.table.bits ≡ l.fn.table.bits)
-    × IsInStep g.H.Host.tells g.H.Host.contents l.cache l.host
+    × IsInStep g.H.Host.meaning l.cache l.host

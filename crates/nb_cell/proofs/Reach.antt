@@ -6,7 +6,7 @@ use Rattle.std.proofs.lemmas.Bool.{cases_eq}
 use Rattle.std.proofs.lemmas.List.Elements.{All-nil, All-cons, All-push, All-weaker}
 use Rattle.nb_record.specs.declared.cell.Cell.{Cell}
 use Rattle.nb_record.specs.Table.{next_of, chain, IsCellTable}
-use Rattle.nb_record.proofs.Chains.{LeadsOn, leads_on, chain_ends, chain_follows}
+use Rattle.nb_record.proofs.Callers.{LeadsOn, leads_on, chain_ends, chain_follows}
 
 -- page q is reached from page h in so many steps, each to a next page
 abbrev pub Reaches : List ℕ → ℕ → ℕ → ℕ → Type 0

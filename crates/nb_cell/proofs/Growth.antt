@@ -9,14 +9,14 @@ use Rattle.std.proofs.lemmas.List.{append-nil}
 use Rattle.std.proofs.lemmas.Nat.{pow_pos, mod_below}
 use Rattle.std.proofs.lemmas.List.Elements.{All-head, All-tail, All-weaker, All-contains, Contains-push, filter-append}
 use Rattle.std.proofs.lemmas.List.Sorted.{IsPermutation-append_left}
+use Rattle.nb_host.specs.Page.{page_of}
 use Rattle.nb_record.specs.declared.cell.Cell.{Cell}
-use Rattle.nb_record.specs.Order.{page_of}
 use Rattle.nb_record.specs.Pages.{page_next}
 use Rattle.nb_record.specs.Records.{cells_of}
 use Rattle.nb_record.specs.Table.{next_of, chain, cells_on_chain, IsCellTable}
-use Rattle.nb_record.proofs.Chains.{LeadsOn, chain_ends}
+use Rattle.nb_record.proofs.Callers.{LeadsOn, chain_ends}
 use Rattle.nb_cell.specs.Chains.{IsLastOfChain}
-use Rattle.nb_cell.proofs.Reaching.{IsReached, Split, reached_within, one_start, chain_reaches, chain_stays, chain_splits}
+use Rattle.nb_cell.proofs.Reach.{IsReached, Split, reached_within, one_start, chain_reaches, chain_stays, chain_splits}
 
 -- Page q of a file has a cell more, or leads to a page that has it. Every other page is as it was.
 pub record HasCellMore (old new : List ℕ) (pages new_pages q : ℕ) (cell : Cell) : Type 0 where

@@ -6,14 +6,14 @@ use Rattle.std.proofs.lemmas.Bool.{cases_eq, cases_lt}
 use Rattle.std.proofs.lemmas.List.{append-nil}
 use Rattle.std.proofs.lemmas.List.Elements.{All-nil, All-cons, All-push}
 use Rattle.std.proofs.lemmas.Nat.{pow_pos}
+use Rattle.nb_host.specs.Page.{page_of, page_start}
 use Rattle.nb_record.specs.declared.cell.Cell.{Cell}
-use Rattle.nb_record.specs.Order.{page_of}
 use Rattle.nb_record.specs.Pages.{page_next, IsCellPage}
 use Rattle.nb_record.specs.Records.{cells_of, IsCell}
 use Rattle.nb_record.specs.Table.{next_of, chain, cells_on_chain, IsNextOnce, IsCellTable}
-use Rattle.nb_record.proofs.Chains.{LeadsOn, chain_ends, chain_follows}
+use Rattle.nb_record.proofs.Callers.{LeadsOn, chain_ends, chain_follows}
 use Rattle.nb_cell.specs.Chains.{IsLastOfChain, IsNewPage}
-use Rattle.nb_cell.proofs.Growing.{HasCellMore, chains_grown, chain_grown}
+use Rattle.nb_cell.proofs.Growth.{HasCellMore, chains_grown, chain_grown}
 
 -- page q of a file of so many pages has a cell more at its end, and every other page is as it was
 pub record HasCellAdded (old new : List ℕ) (pages q : ℕ) (cell : Cell) : Type 0 where
@@ -25,7 +25,7 @@ pub record HasCellAdded (old new : List ℕ) (pages q : ℕ) (cell : Cell) : Typ
 
 -- a file of so many pages has a page more, to which page q leads, and every other page is as it was
 pub record HasPageAdded (old new : List ℕ) (pages q : ℕ) (cell : Cell) : Type 0 where
-  pub size : length new ≡ 4096 * (pages + 1)
+  pub size : length new ≡ page_start (pages + 1)
   pub others : (r : ℕ) → r < pages → r ≢ q → page_of new r ≡ page_of old r
   pub form : IsCellPage q (page_of new q)
   pub next : next_of new q ≡ pages
