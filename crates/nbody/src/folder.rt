@@ -1,6 +1,6 @@
 //! The files of the current folder. Each call that fails says why, and counts nothing.
 
-ghost use Rattle.std.specs.Prelude.{◌+◌, ◌<◌, ◌≤◌, IfOk, length};
+ghost use Rattle.std.specs.Prelude.{◌≡◌, ◌≢◌, ℕ, ◌+◌, ◌<◌, ◌≤◌, true, IfOk, OnOk, OnErr, Err, Contains, [], length};
 
 use crate::names::is_name;
 use crate::open_files::{FileError, OpenFiles, open_to_read};
@@ -11,7 +11,8 @@ use std::io::ErrorKind;
 use std::os::unix::fs::FileExt;
 use std::rt::Files;
 
-/// The current folder.
+/// The current folder. Its clauses say which files are due to be synced: those that were written or cut since
+/// the last sync that succeeded, and all of the program's until one has.
 #[derive(Drop)]
 pub struct Folder<R> {
     rt: R,
@@ -36,7 +37,10 @@ impl<R: Files<File = File> + AllocGlobal + Clone + Drop> Folder<R> {
     }
 
     /// The file's length in bytes: 0 for one that isn't there.
-    pub fn len(&mut self, number: u64) -> Result<u64, FileError> {
+    pub fn len(&mut self, number: u64) -> Result<u64, FileError>
+        ensures unsynced { self.new.unsynced.items ≡ self.old.unsynced.items }
+        ensures was_synced { self.new.was_synced ≡ self.old.was_synced }
+    {
         let Some(open) = self.open_files.reader(&self.rt, number)? else {
             return Ok(0);
         };
@@ -48,7 +52,9 @@ impl<R: Files<File = File> + AllocGlobal + Clone + Drop> Folder<R> {
     /// Fills `into` from the place on, and answers how many bytes it gave.
     pub fn read_at(&mut self, number: u64, at: u64, into: &mut [u8]) -> Result<usize, FileError>
         requires { at + length into.old < PLACE_LIMIT }
-        ensures { IfOk result (λ n. n ≤ length into.old) }
+        ensures count { IfOk result (λ n. n ≤ length into.old) }
+        ensures unsynced { self.new.unsynced.items ≡ self.old.unsynced.items }
+        ensures was_synced { self.new.was_synced ≡ self.old.was_synced }
     {
         let Some(open) = self.open_files.reader(&self.rt, number)? else {
             return Ok(0);
@@ -59,7 +65,13 @@ impl<R: Files<File = File> + AllocGlobal + Clone + Drop> Folder<R> {
     }
 
     /// Puts the bytes at the place.
-    pub fn write_at(&mut self, number: u64, at: u64, bytes: &[u8]) -> Result<(), FileError> {
+    pub fn write_at(&mut self, number: u64, at: u64, bytes: &[u8]) -> Result<(), FileError>
+        ensures marked { bytes.now ≢ [] → result ≢ Err FileError.NoMemory
+            → Contains self.new.unsynced.items number }
+        ensures earlier { (other : ℕ) → Contains self.old.unsynced.items other
+            → Contains self.new.unsynced.items other }
+        ensures was_synced { self.new.was_synced ≡ self.old.was_synced }
+    {
         if bytes.is_empty() {
             return Ok(());
         }
@@ -71,11 +83,16 @@ impl<R: Files<File = File> + AllocGlobal + Clone + Drop> Folder<R> {
     }
 
     /// Makes the file `len` bytes long where it is longer.
-    pub fn cut(&mut self, number: u64, len: u64) -> Result<(), FileError> {
+    pub fn cut(&mut self, number: u64, len: u64) -> Result<(), FileError>
+        ensures marked { result ≢ Err FileError.NoMemory → Contains self.new.unsynced.items number }
+        ensures earlier { (other : ℕ) → Contains self.old.unsynced.items other
+            → Contains self.new.unsynced.items other }
+        ensures was_synced { self.new.was_synced ≡ self.old.was_synced }
+    {
+        self.mark_unsynced(number)?;
         if self.len(number)? <= len {
             return Ok(());
         }
-        self.mark_unsynced(number)?;
         let open = self.open_files.writer(&self.rt, number)?;
         open.file.set_len(len)?;
         self.open_files.keep(open);
@@ -83,7 +100,12 @@ impl<R: Files<File = File> + AllocGlobal + Clone + Drop> Folder<R> {
     }
 
     /// Makes the files and the folder durable.
-    pub fn sync(&mut self) -> Result<(), FileError> {
+    pub fn sync(&mut self) -> Result<(), FileError>
+        ensures synced { OnOk result (self.new.unsynced.items ≡ []) }
+        ensures first { OnOk result (self.new.was_synced ≡ true) }
+        ensures unsynced { OnErr result (self.new.unsynced.items ≡ self.old.unsynced.items) }
+        ensures was_synced { OnErr result (self.new.was_synced ≡ self.old.was_synced) }
+    {
         if !self.was_synced {
             sync_program_files(&self.rt)?;
         }
@@ -97,7 +119,13 @@ impl<R: Files<File = File> + AllocGlobal + Clone + Drop> Folder<R> {
     }
 
     /// Has the next sync take the file.
-    fn mark_unsynced(&mut self, number: u64) -> Result<(), FileError> {
+    fn mark_unsynced(&mut self, number: u64) -> Result<(), FileError>
+        ensures marked { OnOk result (Contains self.new.unsynced.items number) }
+        ensures no_memory { OnErr result (result ≡ Err FileError.NoMemory) }
+        ensures earlier { (other : ℕ) → Contains self.old.unsynced.items other
+            → Contains self.new.unsynced.items other }
+        ensures was_synced { self.new.was_synced ≡ self.old.was_synced }
+    {
         if !self.unsynced.contains(&number) {
             self.unsynced.push(number)?;
         }

@@ -5,9 +5,9 @@
 //! is counted, that a read gives no more than it was asked for, which name each file has, and that nothing
 //! overflows or runs forever.
 
-ghost use Rattle.std.specs.Prelude.{◌≡◌, false, IfOk};
+ghost use Rattle.std.specs.Prelude.{◌≡◌, IfOk};
 ghost use Rattle.nb_host.specs.Faults.{CountsFault};
-ghost use Rattle.nbody.specs.Folder.{untold, unknown, never_honest};
+ghost use Rattle.nb_host.specs.Meaning.{untold_host};
 
 use crate::folder::Folder;
 use crate::open_files::FileError;
@@ -63,54 +63,40 @@ where
     O: Print + Drop,
     E: Print + Drop,
 {
-    ghost tells = { λ _. false };
+    ghost meaning = { untold_host (λ host. host.faults) };
 
-    ghost contents = { λ _. untold };
-
-    ghost faults = { λ host. host.faults };
-
-    ghost refused_says = { λ _ _. 0 };
-
-    ghost crashes = { unknown };
-
-    ghost tells_if_honest = { λ _ honest. honest };
-
-    ghost leaves_contents = { λ _ honest. never_honest honest };
-
-    ghost leaves_said = { λ _ _ honest _. never_honest honest };
-
-    ghost counts_now = { λ _ _ _ honest _ _. never_honest honest };
-
-    ghost counts_only_now = { λ _ _ honest _. never_honest honest };
-
-    ghost counts_earlier = { λ _ _ _ _ honest _ _. never_honest honest };
-
+    #[tactic(auto, using(nb_host::proofs::Callers::untold_ran, nb_host::proofs::Callers::untold_leads))]
     fn len(&mut self, file: u64) -> Result<u64, HostError> {
         let answer = self.folder.len(file);
         self.counted(answer)
     }
 
+    #[tactic(auto, using(nb_host::proofs::Callers::untold_ran, nb_host::proofs::Callers::untold_leads))]
     fn read_at(&mut self, file: u64, at: u64, into: &mut [u8]) -> Result<usize, HostError> {
         let answer = self.folder.read_at(file, at, into);
         self.counted(answer)
     }
 
+    #[tactic(auto, using(nb_host::proofs::Callers::untold_ran, nb_host::proofs::Callers::untold_leads))]
     fn write_at(&mut self, file: u64, at: u64, bytes: &[u8]) -> Result<(), HostError> {
         let answer = self.folder.write_at(file, at, bytes);
         self.counted(answer)
     }
 
+    #[tactic(auto, using(nb_host::proofs::Callers::untold_ran, nb_host::proofs::Callers::untold_leads))]
     fn cut(&mut self, file: u64, len: u64) -> Result<(), HostError> {
         let answer = self.folder.cut(file, len);
         self.counted(answer)
     }
 
+    #[tactic(auto, using(nb_host::proofs::Callers::untold_ran, nb_host::proofs::Callers::untold_leads))]
     fn sync(&mut self) -> Result<(), HostError> {
         let answer = self.folder.sync();
         self.counted(answer)
     }
 
     // The streams hold nothing back, so there is nothing to flush.
+    #[tactic(auto, using(nb_host::proofs::Callers::untold_spoke))]
     fn say(&mut self, channel: Channel, bytes: &[u8]) -> Result<(), HostError> {
         let answer = match channel {
             Channel::Out => self.out.write_all(bytes),

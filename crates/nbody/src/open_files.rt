@@ -136,16 +136,16 @@ impl OpenFiles {
 }
 
 /// Opens the file with the name. A folder is refused, and so is what isn't a file at all: to open a pipe
-/// could wait forever.
+/// could wait forever. What can't be looked at is refused too, but for a name that isn't there.
 pub fn open_file<R: Files<File = File>>(
     rt: &R,
     name: &str,
     options: &OpenOptions,
 ) -> io::Result<File> {
-    if let Ok(found) = metadata(rt, name)
-        && !found.is_file()
-    {
-        return Err(io::Error::from(ErrorKind::InvalidInput));
+    match metadata(rt, name) {
+        Ok(found) if !found.is_file() => return Err(io::Error::from(ErrorKind::InvalidInput)),
+        Err(e) if e.kind() != ErrorKind::NotFound => return Err(e),
+        _ => {}
     }
     off_streams(options.open(rt, name)?)
 }
