@@ -1,5 +1,5 @@
 -- A file of bodies, as far as it is copied.
-use Rattle.std.proofs.Common.{◌≡◌, ℕ, ◌+◌, ◌<◌, List, [], ◌∷◌, ◌++◌, length, Some, inl, inr, refl, sym, ap, subst, ◌∙◌, arith, append_assoc, append-nil, length-append}
+use Rattle.std.proofs.Common.{◌≡◌, ℕ, ◌+◌, List, [], ◌∷◌, ◌++◌, length, Some, refl, sym, ap, subst, ◌∙◌, arith, append_assoc, append-nil, length-append}
 use Rattle.std.specs.Prelude.{slice_get}
 use Rattle.std.proofs.lemmas.Option.{slice_get_within}
 use Rattle.nb_model.specs.declared.body.V3.{V3}
@@ -9,7 +9,7 @@ use Rattle.nb_record.specs.Records.{kick_of}
 use Rattle.nb_record.specs.Writing.{IsZeroPaddedFile}
 use Rattle.nb_record.specs.Order.{record_of, HoldsBodies}
 use Rattle.nb_order.specs.Files.{IsPushed}
-use Rattle.nb_order.specs.Places.{AreNumbersOf, HasKicks, IsCopyOf}
+use Rattle.nb_order.specs.Places.{AreNumbersOf, IsCopyOf}
 use Rattle.nb_order.proofs.Pushing.{kicks_pushed}
 
 -- an empty file holds no body

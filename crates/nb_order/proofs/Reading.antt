@@ -1,5 +1,5 @@
 -- A body of a file, and the page on which it stands.
-use Rattle.std.proofs.Common.{◌≡◌, ℕ, zero, suc, ◌+◌, ◌*◌, ◌/◌, ◌%◌, ◌<◌, ◌≤◌, IsTrue, Bool, true, false, cond, not, eqb, leb, Ok, Err, List, [], ◌∷◌, ◌++◌, Some, length, inl, inr, refl, sym, ap, subst, ◌∙◌, arith}
+use Rattle.std.proofs.Common.{◌≡◌, ℕ, zero, suc, ◌+◌, ◌/◌, ◌%◌, ◌<◌, ◌≤◌, IsTrue, Bool, true, false, cond, not, eqb, leb, Ok, Err, List, [], ◌∷◌, ◌++◌, Some, length, inl, inr, refl, sym, ap, subst, ◌∙◌, arith}
 use Rattle.std.specs.Prelude.{slice_get, ◌≢◌}
 use Rattle.std.proofs.lemmas.Bool.{cases_lt}
 use Rattle.std.proofs.lemmas.List.{length_push}
@@ -13,7 +13,6 @@ use Rattle.nb_model.specs.declared.body.Body.{Body}
 use Rattle.nb_record.specs.declared.sizes.TheConstants.{BODIES_PER_PAGE}
 use Rattle.nb_record.specs.Order.{pages_for, count_on, record_of, HoldsBodies, HoldsKickedBodies, HaveDifferentIds}
 use Rattle.nb_record.specs.Fields.{word}
-use Rattle.nb_record.specs.declared.header.PageError.{PageError}
 use Rattle.nb_record.specs.declared.header.PageError.TheVariants.{Number, Count, Next}
 use Rattle.nb_record.specs.Pages.{page_number, page_count, page_next, read_body_page, IsBodyPage}
 use Rattle.nb_record.specs.Records.{body_record, body_of, kick_of, IsBodyRecord}

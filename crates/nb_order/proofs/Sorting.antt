@@ -15,7 +15,7 @@ use Rattle.std.proofs.lemmas.List.Sorted.{IsPermutation-refl, IsPermutation-push
 use Rattle.std.proofs.lemmas.Map.Keys.{sorted_head, sorted_tail}
 use Rattle.std.proofs.lemmas.Option.{get_or_from_slice_get, slice_get_within, same_Some}
 use Rattle.nb_model.specs.declared.body.Body.{Body}
-use Rattle.nb_record.specs.Order.{precedes, insert_by, sorted_by, HaveDifferentIds, IsSortedByRank}
+use Rattle.nb_record.specs.Order.{precedes, insert_by, sorted_by, IsSortedByRank}
 use Rattle.nb_record.proofs.Callers.{permuted, only}
 use Rattle.nb_record.specs.Records.{body_of}
 use Rattle.nb_record.specs.Order.{record_of}

@@ -1,10 +1,8 @@
 use Rattle.std.proofs.Common.{◌≡◌, Err, Contains, [], ◌∷◌, rules, ap, sym, subst, ◌∙◌}
 use Rattle.std.proofs.lemmas.Grind.{common_steps}
 use Rattle.nb_host.specs.declared.page_name.PageName.{PageName}
-use Rattle.nb_cache.specs.declared.cache_error.CacheError.{CacheError}
 use Rattle.nb_cache.specs.declared.cache_error.CacheError.TheVariants as cache
 use Rattle.nb_cache.specs.View.{IsWhole}
-use Rattle.nb_order.specs.declared.order_error.OrderError.TheVariants.{Damaged}
 use Rattle.nb_order.specs.Errors.{of_cache}
 use Rattle.nb_order.proofs.Refusing.{short_handed_on}
 use Rattle.nb_order.proofs.body_file.fetch_page.Goals as goal

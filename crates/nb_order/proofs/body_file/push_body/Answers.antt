@@ -1,10 +1,8 @@
-use Rattle.std.proofs.Common.{◌≡◌, ◌/◌, ◌%◌, Err, IsTrue, Result, [], ◌∷◌, ap, sym, subst, ◌∙◌, arith, rules}
+use Rattle.std.proofs.Common.{◌≡◌, ◌/◌, ◌%◌, Err, [], ◌∷◌, ap, subst, ◌∙◌, arith, rules}
 use Rattle.nb_host.specs.declared.page_name.PageName.{PageName}
 use Rattle.nb_host.specs.Image.{overwritten}
 use Rattle.std.specs.Prelude.{◌≢◌}
 use Rattle.nb_host.specs.Page.{page_start, HasPage}
-use Rattle.nb_cache.specs.declared.cache_error.CacheError.{CacheError}
-use Rattle.nb_cache.specs.declared.cache_error.CacheError.TheVariants as cache
 use Rattle.nb_cache.specs.View.{seen}
 use Rattle.nb_cache.proofs.Callers.{no_file, may_write, ran_as, ran_then, seen_stays, seen_after}
 use Rattle.nb_record.specs.declared.sizes.TheConstants.{BODIES_PER_PAGE}

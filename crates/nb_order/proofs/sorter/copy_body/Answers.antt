@@ -1,12 +1,11 @@
-use Rattle.std.proofs.Common.{◌≡◌, IsTrue, List, [], ◌∷◌, ◌++◌, Err, inl, inr, ap, sym, subst, ◌∙◌, rules}
+use Rattle.std.proofs.Common.{◌≡◌, [], ◌∷◌, Err, inl, inr, ap, sym, subst, ◌∙◌, rules}
 use Rattle.std.proofs.lemmas.Option.{same_Some, slice_get_within}
 use Rattle.std.proofs.lemmas.Result.{on_ok_weaker}
 use Rattle.nb_host.specs.declared.page_name.PageName.{PageName}
 use Rattle.nb_model.specs.declared.body.Body.{Body}
 use Rattle.nb_cache.specs.View.{seen}
-use Rattle.nb_cache.proofs.Callers.{no_file, may_write, writes_both, ran_then}
+use Rattle.nb_cache.proofs.Callers.{no_file, may_write, ran_then}
 use Rattle.nb_record.specs.Order.{HoldsBodies}
-use Rattle.nb_order.specs.Places.{IsCopyOf}
 use Rattle.nb_order.specs.Files.{IsPushed}
 use Rattle.nb_order.specs.declared.order_error.OrderError.TheVariants.{Fault, Damaged}
 use Rattle.nb_order.proofs.Copying.{copy_more}

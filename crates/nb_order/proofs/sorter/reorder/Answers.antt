@@ -1,17 +1,16 @@
-use Rattle.std.proofs.Common.{◌≡◌, ℕ, IsTrue, List, [], ◌∷◌, ◌++◌, Err, length, inl, inr, sym, ap, subst, ◌∙◌, arith, rules}
+use Rattle.std.proofs.Common.{◌≡◌, ℕ, IsTrue, List, [], ◌∷◌, Err, length, inl, sym, ap, subst, ◌∙◌, rules}
 use Rattle.std.specs.Map.{values_of}
 use Rattle.std.proofs.lemmas.Result.{on_ok_weaker}
-use Rattle.nb_model.specs.declared.body.V3.{V3}
 use Rattle.nb_model.specs.declared.body.Body.{Body}
 use Rattle.nb_cache.specs.View.{seen}
 use Rattle.nb_cache.proofs.Callers.{no_file, other_file, may_write, ran_as, ran_then, ran_again}
-use Rattle.nb_record.specs.Order.{sorted_by, HoldsBodies}
+use Rattle.nb_record.specs.Order.{sorted_by}
 use Rattle.nb_order.specs.Files.{IsSortedCopy}
 use Rattle.nb_order.specs.Places.{HasFirst, AreReadTo, AreNumbersOf, IsCopyOf}
 use Rattle.nb_order.specs.declared.order_error.OrderError.TheVariants.{Fault, Damaged}
 use Rattle.nb_order.proofs.Reading.{held_first, first_of, length-first_of, has_first, never_unsortable}
 use Rattle.nb_order.specs.Errors.{of_cache}
-use Rattle.nb_order.proofs.Refusing.{fault_handed_on, short_handed_on}
+use Rattle.nb_order.proofs.Refusing.{fault_handed_on}
 use Rattle.nb_order.proofs.Sorting.{read_numbers}
 use Rattle.nb_order.proofs.sorter.reorder.Goals as goal
 
