@@ -178,14 +178,23 @@ pub listed_kick : (file : List ℕ) (kick_for : Body → V3) (bodies : List Body
     → HoldsKickedBodies file kick_for bodies → slice_get bodies j ≡ Some b → kick ≡ kick_for b
 listed_kick file kick_for bodies j b body kick is holds at = is.kick_is ∙ holds.kicks j b at
 
+pub no_body : {H : Type 0} {m : HostModel H} {cache : CacheValue} {host : H} {file index : ℕ} {name : PageName} → name ≡ page_of_body file index
+    → (IsTrue m.tells → HasBody (seen m cache host file) index → ⊥) → IsNoBody m cache host file index name
+no_body {m = m} {cache = cache} {host = host} {file = file} {index = index} page cause = record {
+  page = page;
+  cause = cause;
+  listed = λ tells bodies holds. elim (cases_lt index (length bodies)) [
+    | inl below ↦ let first = held_first (seen m cache host file) bodies holds in absurd (cause tells (first.each index below))
+    | inr beyond ↦ beyond
+  ];
+}
+
 -- a page that isn't whole has no body
 pub no_body_short : {H : Type 0} {m : HostModel H} {cache : CacheValue} {host : H} {file index : ℕ} {name : PageName} (other : PageName)
     → other ≡ page_of_body file index → name ≡ other → (IsTrue m.tells → ¬ IsWhole cache (m.contents host) other)
     → IsNoBody m cache host file index name
-no_body_short {m = m} {cache = cache} {host = host} other at same short = record {
-  page = same ∙ at;
-  cause = λ tells has. short tells (subst (IsWhole cache (m.contents host)) (sym at) has.whole);
-}
+no_body_short {m = m} {cache = cache} {host = host} other at same short =
+    no_body (same ∙ at) (λ tells has. short tells (subst (IsWhole cache (m.contents host)) (sym at) has.whole))
 
 pub no_room : {H : Type 0} {m : HostModel H} {cache : CacheValue} {host : H} {file index : ℕ} {name : PageName} → name ≡ page_of_body file index
     → (IsTrue m.tells → HasRoomFor (seen m cache host file) index → ⊥) → HasNoRoom m cache host file index name

@@ -1,5 +1,5 @@
 -- Why a call on a file of bodies answers Damaged: the page over every host, and its cause over one that tells its contents.
-use Rattle.std.specs.Prelude.{◌≡◌, ◌≢◌, ◌⊎◌, ℕ, IsTrue, List, length}
+use Rattle.std.specs.Prelude.{◌≡◌, ◌≢◌, ◌⊎◌, ℕ, ◌≤◌, IsTrue, List, length}
 use Rattle.nb_host.specs.Meaning.{HostModel}
 use Rattle.nb_host.specs.declared.page_name.PageName.{PageName}
 use Rattle.nb_model.specs.declared.body.Body.{Body}
@@ -7,10 +7,11 @@ use Rattle.nb_cache.specs.View.{CacheValue, seen}
 use Rattle.nb_record.specs.Order.{HoldsBodies, HaveDifferentIds}
 use Rattle.nb_order.specs.Files.{page_of_body, HasBody, HasRoomFor, IsUnsortable}
 
--- body `index` of the file isn't there
+-- body `index` of the file isn't there, so the file holds no list that is so long
 pub record IsNoBody {H : Type 0} (m : HostModel H) (cache : CacheValue) (host : H) (file index : ℕ) (name : PageName) : Type 0 where
   pub page : name ≡ page_of_body file index
   pub cause : IsTrue m.tells → HasBody (seen m cache host file) index → ⊥
+  pub listed : IsTrue m.tells → (bodies : List Body) → HoldsBodies (seen m cache host file) bodies → length bodies ≤ index
 
 -- a body can't be added to the file as number `index`, so the file doesn't hold so many bodies
 pub record HasNoRoom {H : Type 0} (m : HostModel H) (cache : CacheValue) (host : H) (file index : ℕ) (name : PageName) : Type 0 where

@@ -4,7 +4,7 @@ use Rattle.nb_model.specs.Valid.{IsBelow, IsValidBody}
 use Rattle.nb_cache.specs.View.{seen}
 use Rattle.nb_cache.proofs.Callers.{no_file, lent_page}
 use Rattle.nb_order.specs.declared.order_error.OrderError.TheVariants.{Damaged}
-use Rattle.nb_order.proofs.Reading.{body_read, body_missed, no_body_short}
+use Rattle.nb_order.proofs.Reading.{body_read, body_missed, no_body, no_body_short}
 use Rattle.nb_order.proofs.body_file.kicked_at.Goals as goal
 
 pub returns-in_err-fetch_page-clause-damaged : goal.returns-in_err-fetch_page-clause-damaged
@@ -37,12 +37,10 @@ returns-in-Some-clause-read g c = λ tells.
 pub returns-in-None-clause-damaged : goal.returns-in-None-clause-damaged
 returns-in-None-clause-damaged g c = λ name is.
     let same : c.page_name-name.result ≡ name = cc in
-    record {
-      page = sym same ∙ c.page_name-name.ensures.value;
-      cause = λ tells.
+    no_body (sym same ∙ c.page_name-name.ensures.value)
+    (λ tells.
           body_missed (seen g.H.Host.meaning c.args.cache.now c.args.host.now) c.unwrap-bytes.result.now
           c.page_name-name.result c.args.file c.args.index c.page_name-name.ensures.value
           (lent_page c.page_name-name.result (no_file c.page_name-name.result.file) c.fetch_page.ensures.ran.writes
           (rw c.unwrap-bytes.ensures at c.lent.ensures.view) tells)
-          c.in-None.ensures.none;
-    }
+          c.in-None.ensures.none)
