@@ -1,7 +1,7 @@
 //! Bytes that were written by hand, files that are no snapshot, and calls that fail.
 
 use super::*;
-use nb_host::{Host, HostError, MemoryHost};
+use nb_host::{Host, HostError, MemoryHost, Outcome};
 use nb_model::{At, Body, V3};
 use std::alloc::Global;
 use std::test::*;
@@ -294,6 +294,28 @@ fn a_fault_leaves_the_file_unfinished(rt: HostRuntime) -> Result<(), Fail> {
             "call {call}"
         );
         assert!(rt; call < 10 || host.bytes(FILE) == TWO.as_slice());
+    }
+    Ok(())
+}
+
+/// A crash while a body is being written leaves an unfinished file, whatever it leaves: half of the body's bytes,
+/// what the last sync made durable, or all of the bytes as the gate's.
+#[test]
+fn a_crash_leaves_the_file_unfinished(rt: HostRuntime) -> Result<(), Fail> {
+    let table = [
+        (Outcome::Kept, 64),
+        (Outcome::Lost, 1),
+        (Outcome::Filled(0x46), 96),
+    ];
+    for (outcome, length) in table {
+        let mut host = MemoryHost::new(rt.alloc());
+        host.fuse(5);
+        let filling = Fresh::new(FILE, 1, 0).begin(&mut host)?;
+        assert!(rt; filling.add(&mut host, &FIRST).is_err());
+        host.crash(outcome)?;
+        assert_eq!(rt; host.bytes(FILE).len(), length);
+        assert_eq!(rt; host.bytes(FILE).first(), Some(&0));
+        assert!(rt; !snap_finished(&mut host, FILE, 1)?);
     }
     Ok(())
 }

@@ -1,6 +1,7 @@
 //! What the program does over a host in memory: its bytes, its lines and its statuses.
 
 use super::*;
+use crate::Done;
 use nb_host::MemoryHost;
 use std::alloc::AllocError;
 use std::process::Abort;
@@ -18,6 +19,10 @@ const H: u64 = 549_755_813_888;
 /// Parameters for all tests that don't name others.
 const TEXT: &[u8] =
     b"grav = 1000000000\ntheta_num = 1\ntheta_den = 2\nsoft = 1\nleaf = 8\nevery = 100\n";
+
+/// The same in a box that wraps.
+const WRAPPED: &[u8] =
+    b"grav = 1000000000\ntheta_num = 1\ntheta_den = 2\nsoft = 1\nleaf = 8\nevery = 100\nedge = wrap\n";
 
 /// The snapshot of no bodies at time 0.
 static EMPTY: [u8; 32] = [
@@ -98,7 +103,21 @@ fn check_done(
     line: &[u8],
     want: &[u8],
 ) -> Result<(), Fail> {
+    check_done_by(rt, alloc, TEXT, init, target, line, want)
+}
+
+/// The same by these parameters.
+fn check_done_by(
+    rt: &impl Abort,
+    alloc: Global,
+    text: &[u8],
+    init: &[u8],
+    target: &str,
+    line: &[u8],
+    want: &[u8],
+) -> Result<(), Fail> {
     let mut host = host_of(alloc, init)?;
+    host.with_file(PARAMS, text)?;
     assert_eq!(rt; run_words(alloc, &["once", target], &mut host), 0);
     assert_eq!(rt; host.said(Channel::Out), line);
     assert_eq!(rt; host.said(Channel::Err), b"".as_slice());
@@ -143,6 +162,13 @@ fn one_body(rt: HostRuntime) -> Result<(), Fail> {
     let mut host = host_of(rt.alloc(), &ONE_BODY)?;
     assert_eq!(rt; run_words(rt.alloc(), &["once", "1"], &mut host), 0);
     assert_eq!(rt; host.calls(), 18);
+    let mut host = host_of(rt.alloc(), &ONE_BODY)?;
+    let done = Done {
+        time: 1,
+        ticks: 1,
+        gone: 0,
+    };
+    assert_eq!(rt; once(rt.alloc(), &mut host, 1)?, done);
     let line = b"once time 0 ticks 0 out 0\n";
     check_done(&rt, rt.alloc(), &ONE_BODY, "0", line, &ONE_BODY)?;
     let line = b"once time 0 ticks 1 out 0\n";
@@ -157,10 +183,70 @@ fn two_bodies(rt: HostRuntime) -> Result<(), Fail> {
     let mut want = header(rt.alloc(), 2, 1)?;
     spell(&mut want, 1, 1, 0, [549_756_813_887, H, H], [999_998, 0, 0])?;
     spell(&mut want, 2, 1000, 0, [549_755_813_889, H, H], [-999, 0, 0])?;
+    let fields = [
+        (48, [0x3f, 0x42, 0x0f, 0, 0x80, 0, 0, 0]),
+        (72, [0x3e, 0x42, 0x0f, 0, 0, 0, 0, 0]),
+        (112, [0x01, 0, 0, 0, 0x80, 0, 0, 0]),
+        (136, [0x19, 0xfc, 0xff, 0xff, 0xff, 0xff, 0xff, 0xff]),
+    ];
+    for (at, bytes) in fields {
+        assert_eq!(rt; want.get(at..at + 8), Some(bytes.as_slice()));
+    }
     let line = b"once time 1 ticks 1 out 0\n";
     check_done(&rt, rt.alloc(), &init, "1", line, &want)?;
     let line = b"once time 0 ticks 1 out 0\n";
     check_done(&rt, rt.alloc(), &want, "0", line, &init)
+}
+
+/// Two bodies on both sides of the border of a box that wraps.
+#[test]
+fn two_bodies_across_the_border(rt: HostRuntime) -> Result<(), Fail> {
+    let mut init = header(rt.alloc(), 2, 0)?;
+    spell(&mut init, 1, 1, 0, [0, H, H], [0, 0, 0])?;
+    spell(&mut init, 2, 1000, 0, [1_099_511_626_776, H, H], [0, 0, 0])?;
+    let mut want = header(rt.alloc(), 2, 1)?;
+    spell(
+        &mut want,
+        1,
+        1,
+        0,
+        [1_099_510_627_777, H, H],
+        [-999_998, 0, 0],
+    )?;
+    spell(
+        &mut want,
+        2,
+        1000,
+        0,
+        [1_099_511_627_775, H, H],
+        [999, 0, 0],
+    )?;
+    let line = b"once time 1 ticks 1 out 0\n";
+    check_done_by(&rt, rt.alloc(), WRAPPED, &init, "1", line, &want)?;
+    let line = b"once time 0 ticks 1 out 0\n";
+    check_done_by(&rt, rt.alloc(), WRAPPED, &want, "0", line, &init)
+}
+
+/// What becomes of body 7 in a box that wraps.
+#[test]
+fn one_body_across_the_border(rt: HostRuntime) -> Result<(), Fail> {
+    let table = [
+        ([1_099_511_627_775, 0, 0], 1, 0, [0, 0, 0]),
+        ([5, 5, 5], 1_099_511_627_775, 0, [4, 5, 5]),
+        // too fast
+        ([5, 5, 5], 1_099_511_627_776, 1, [5, 5, 5]),
+    ];
+    for (from, speed, out, to) in table {
+        let mut init = header(rt.alloc(), 1, 0)?;
+        spell(&mut init, 7, 3, 0, from, [speed, 0, 0])?;
+        let mut want = header(rt.alloc(), 1, 1)?;
+        spell(&mut want, 7, 3, out, to, [speed, 0, 0])?;
+        let mut host = host_of(rt.alloc(), &init)?;
+        host.with_file(PARAMS, WRAPPED)?;
+        assert_eq!(rt; run_words(rt.alloc(), &["once", "1"], &mut host), 0);
+        assert_eq!(rt; host.bytes(ONCE), want.as_slice());
+    }
+    Ok(())
 }
 
 #[test]
@@ -271,6 +357,11 @@ fn no_snapshot(rt: HostRuntime) -> Result<(), Fail> {
     for (init, line) in table {
         check_snapshot(&rt, rt.alloc(), init, "0", 3, line)?;
     }
+    // a file that isn't there
+    let mut host = MemoryHost::new(rt.alloc());
+    host.with_file(PARAMS, TEXT)?;
+    let line = b"nbody: snapshot: short\n";
+    check_refused(&rt, rt.alloc(), &mut host, &["once", "0"], 3, line)?;
     let table = [
         (0, 0, b"nbody: snapshot: unfinished\n".as_slice()),
         (7, 0x32, b"nbody: snapshot: magic\n"),
@@ -337,16 +428,17 @@ fn parameters_with_comments(rt: HostRuntime) -> Result<(), Fail> {
     Ok(())
 }
 
+/// Parameters by which two bodies of mass 2^31 are too heavy.
+const HEAVY: &[u8] =
+    b"grav = 268435456\ntheta_num = 1\ntheta_den = 2\nsoft = 1\nleaf = 8\nevery = 100\n";
+
 #[test]
 fn too_heavy(rt: HostRuntime) -> Result<(), Fail> {
     let mut init = header(rt.alloc(), 2, 0)?;
     spell(&mut init, 1, 2_147_483_648, 0, [0, 0, 0], [0, 0, 0])?;
     spell(&mut init, 2, 2_147_483_648, 1, [0, 0, 0], [0, 0, 0])?;
     let mut host = host_of(rt.alloc(), &init)?;
-    host.with_file(
-        PARAMS,
-        b"grav = 268435456\ntheta_num = 1\ntheta_den = 2\nsoft = 1\nleaf = 8\nevery = 100\n",
-    )?;
+    host.with_file(PARAMS, HEAVY)?;
     // too far away too, which is looked for after it
     check_refused(
         &rt,
@@ -356,6 +448,15 @@ fn too_heavy(rt: HostRuntime) -> Result<(), Fail> {
         4,
         b"nbody: grav 268435456 times mass 4294967296 is not below 2^60\n",
     )?;
+
+    // no body out, and no other cause
+    let mut init = header(rt.alloc(), 2, 0)?;
+    spell(&mut init, 1, 2_147_483_648, 0, [0, 0, 0], [0, 0, 0])?;
+    spell(&mut init, 2, 2_147_483_648, 0, [0, 0, 0], [0, 0, 0])?;
+    let mut host = host_of(rt.alloc(), &init)?;
+    host.with_file(PARAMS, HEAVY)?;
+    let line = b"nbody: grav 268435456 times mass 4294967296 is not below 2^60\n";
+    check_refused(&rt, rt.alloc(), &mut host, &["once", "1"], 4, line)?;
 
     let mut light = header(rt.alloc(), 1, 0)?;
     spell(&mut light, 1, 1, 0, [0, 0, 0], [0, 0, 0])?;
@@ -411,6 +512,14 @@ fn many_bodies(rt: HostRuntime) -> Result<(), Fail> {
     let line = b"nbody: 4097 bodies are more than 4096\n";
     check_snapshot(&rt, rt.alloc(), &most, "1099511627777", 10, line)?;
 
+    // too many alone
+    let mut host = host_of(rt.alloc(), &most)?;
+    host.with_file(
+        PARAMS,
+        b"grav = 1\ntheta_num = 1\ntheta_den = 2\nsoft = 1\nleaf = 8\nevery = 100\n",
+    )?;
+    check_refused(&rt, rt.alloc(), &mut host, &["once", "1"], 10, line)?;
+
     // a file of too many bodies whose last one is none is no snapshot
     let len = most.len();
     assert!(rt; len > 52);
@@ -462,6 +571,31 @@ fn a_fault(rt: HostRuntime) -> Result<(), Fail> {
         assert_eq!(rt; host.said(Channel::Out), out, "call {call}");
         assert_eq!(rt; host.bytes(INIT), ONE_BODY.as_slice());
         assert_eq!(rt; host.bytes(PARAMS), TEXT);
+    }
+    Ok(())
+}
+
+/// A longer file of `once` is cut before it is written, and each call that fails before its header is written
+/// leaves of it what that call should.
+#[test]
+fn a_longer_old_file(rt: HostRuntime) -> Result<(), Fail> {
+    let old = vec![in rt.alloc(); b'o'; 200]?;
+    let mut host = host_of(rt.alloc(), &ONE_BODY)?;
+    host.with_file(ONCE, &old)?;
+    assert_eq!(rt; run_words(rt.alloc(), &["once", "1"], &mut host), 0);
+    assert_eq!(rt; host.bytes(ONCE), ONE_BODY_LATER.as_slice());
+    // The seventh call cuts the file, the eighth syncs that, and the twelfth syncs the shut gate.
+    for call in 1..=12 {
+        let mut host = host_of(rt.alloc(), &ONE_BODY)?;
+        host.with_file(ONCE, &old)?;
+        host.fail_at(&[call])?;
+        assert_eq!(rt; run_words(rt.alloc(), &["once", "1"], &mut host), 11);
+        let left = match call {
+            1..=7 => old.as_slice(),
+            12 => b"\0",
+            _ => b"",
+        };
+        assert_eq!(rt; host.bytes(ONCE), left, "call {call}");
     }
     Ok(())
 }

@@ -76,9 +76,9 @@ returns-in-Err-clause-err_part g c told other =
       why,
       line_by (c.in-Err.ensures.cause told) c.say_refusal.ensures.status c.say_refusal.ensures.kept,
       was_said-after m (refusal_line why) (faults_behind why (m.faults c.args.host.now)) c.args.host.now c.run.new.host c.say_refusal.new.host
-      (err_run (c.run.ensures.touched told)) (counts.refused told)
-      (faults_behind-run why (m.faults c.args.host.now) (m.faults c.run.new.host) counts.count (λ is. counts.rose (c.in-Err.is ∙ ap Err is)))
-      (c.say_refusal.ensures.once told),
+          (err_run (c.run.ensures.touched told)) (counts.refused told)
+          (faults_behind-run why (m.faults c.args.host.now) (m.faults c.run.new.host) counts.count (λ is. counts.rose (c.in-Err.is ∙ ap Err is)))
+          (c.say_refusal.ensures.once told),
     )
 
 pub returns-in-Err-clause-spared : goal.returns-in-Err-clause-spared
