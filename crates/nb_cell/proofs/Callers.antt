@@ -1,5 +1,5 @@
 -- What crates above may cite. Every other proof file of this crate is its own.
-use Rattle.std.proofs.Common.{◌≡◌, ℕ, ◌+◌, ◌≤◌, ap, sym, ◌∙◌, arith}
+use Rattle.std.proofs.Common.{◌+◌, ◌≤◌, arith}
 use Rattle.nb_cell.specs.declared.table.CellTable.{CellTable}
 use Rattle.nb_cell.specs.Insertions.{Grows}
 -- searches along a chain, and what a table makes of them

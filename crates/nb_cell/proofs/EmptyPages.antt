@@ -8,7 +8,7 @@ use Rattle.nb_host.specs.Image.{overwritten}
 use Rattle.nb_host.specs.Page.{page_of, page_start}
 use Rattle.nb_host.specs.declared.page_name.TheConstants.{PAGE_SIZE}
 use Rattle.nb_record.specs.declared.sizes.TheConstants.{CELL_SIZE}
-use Rattle.nb_record.specs.Pages.{page_number, page_next, IsCellPage}
+use Rattle.nb_record.specs.Pages.{page_next, IsCellPage}
 use Rattle.nb_record.specs.Records.{cells_of, IsCell}
 use Rattle.nb_record.specs.Table.{cells_on_chain, IsCellTable}
 use Rattle.nb_record.specs.Writing.{IsZeroPadded, IsZeroPaddedFile}

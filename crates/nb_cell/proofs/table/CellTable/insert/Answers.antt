@@ -1,4 +1,4 @@
-use Rattle.std.proofs.Common.{◌≡◌, Err, [], ◌∷◌, rules, arith, sym, ◌∙◌}
+use Rattle.std.proofs.Common.{◌≡◌, Err, [], ◌∷◌, rules, arith}
 use Rattle.std.proofs.lemmas.Result.{on_ok_weaker, IfErr-weaker}
 use Rattle.nb_host.specs.declared.page_name.PageName.{PageName}
 use Rattle.nb_cache.proofs.Callers.{no_file, may_write, ran_as, ran_then, ran_again, seen_stays}

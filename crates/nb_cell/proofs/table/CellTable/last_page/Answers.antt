@@ -1,4 +1,4 @@
-use Rattle.std.proofs.Common.{◌≡◌, ◌%◌, Err, rules, arith, sym, ap, ◌∙◌}
+use Rattle.std.proofs.Common.{◌≡◌, ◌%◌, Err, rules, sym, ap, ◌∙◌}
 use Rattle.std.specs.Option.{unwrap_or}
 use Rattle.nb_cell.specs.declared.cell_error.CellError.TheVariants.{Fault, Damaged}
 use Rattle.nb_cell.specs.Chains.{first_page}

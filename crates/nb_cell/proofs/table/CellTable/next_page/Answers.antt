@@ -1,12 +1,11 @@
-use Rattle.std.proofs.Common.{◌≡◌, ℕ, IsTrue, Err, Contains, [], ◌∷◌, rules, arith, sym, ap, subst, ◌∙◌}
+use Rattle.std.proofs.Common.{◌≡◌, Err, Contains, [], ◌∷◌, rules, arith, sym, ap, subst, ◌∙◌}
 use Rattle.std.specs.Prelude.{◌≢◌, All}
 use Rattle.std.proofs.lemmas.Grind.{common_steps}
-use Rattle.nb_host.specs.Page.{HasPage}
 use Rattle.nb_host.specs.declared.page_name.PageName.{PageName}
 use Rattle.nb_cache.specs.declared.cache_error.CacheError.{CacheError}
 use Rattle.nb_cache.specs.declared.cache_error.CacheError.TheVariants as cache
 use Rattle.nb_cache.specs.View.{seen, IsWhole}
-use Rattle.nb_record.specs.Pages.{page_next, IsCellPage}
+use Rattle.nb_record.specs.Pages.{IsCellPage}
 use Rattle.nb_record.specs.Records.{cells_of}
 use Rattle.nb_cell.specs.declared.cell_error.CellError.TheVariants.{Damaged}
 use Rattle.nb_cell.specs.Errors.{of_cache}
