@@ -1,5 +1,6 @@
 mod Inverses
 mod Karatsuba
 mod OneOctant
+mod Ratios
 mod Shifts
 mod Table

@@ -6,6 +6,7 @@
 
 mod cell;
 mod distance;
+mod estimate;
 mod leapfrog;
 mod monopole;
 mod opening;

@@ -5,8 +5,10 @@ ghost use Rattle.nb_model.specs.Limits.{gm_limit};
 ghost use Rattle.nb_model.specs.Root.{integer_root};
 ghost use Rattle.nb_model.specs.Gravity.{pull, pull_along};
 ghost use Rattle.nb_model.specs.Valid.{AreInRange, IsInBox};
+ghost use Rattle.nb_model.specs.Vector.{norm_squared};
 
 use crate::distance::{nearest_displacement, norm_squared};
+use crate::estimate::estimated_pull;
 use crate::square_root::root_of_word;
 use nb_model::{At, Params, V3};
 
@@ -84,6 +86,30 @@ fn along(scale: &Scale, difference: i64) -> i64
     if difference < 0 { -size } else { size }
 }
 
+/// The pull by this GM at this displacement, whose softened square is `square`, by divisions.
+fn divided_pull(gm: u64, square: u64, displacement: &V3) -> V3
+    requires gm { gm < gm_limit }
+    requires some { 1 ≤ square }
+    requires part { norm_squared displacement.now ≤ square }
+    ensures x { result.x ≡ pull_along gm square displacement.now.x }
+    ensures y { result.y ≡ pull_along gm square displacement.now.y }
+    ensures z { result.z ≡ pull_along gm square displacement.now.z }
+{
+    let root = root_of_word(square);
+    let scale = Scale {
+        square,
+        root,
+        inverse: ONE / root,
+        whole: gm / square,
+        rest: gm % square,
+    };
+    V3 {
+        x: along(&scale, displacement.x),
+        y: along(&scale, displacement.y),
+        z: along(&scale, displacement.z),
+    }
+}
+
 /// The half kick that a mass at `centre`, or in a box that wraps its nearest image, gives to a body at
 /// `from`, in box units a tick.
 pub fn pull(params: &Params, from: &At, mass: u64, centre: &At) -> V3
@@ -102,17 +128,8 @@ pub fn pull(params: &Params, from: &At, mass: u64, centre: &At) -> V3
         return V3 { x: 0, y: 0, z: 0 };
     }
     let square = square as u64;
-    let root = root_of_word(square);
-    let scale = Scale {
-        square,
-        root,
-        inverse: ONE / root,
-        whole: gm / square,
-        rest: gm % square,
-    };
-    V3 {
-        x: along(&scale, displacement.x),
-        y: along(&scale, displacement.y),
-        z: along(&scale, displacement.z),
+    if let Some(kick) = estimated_pull(gm, square, &displacement) {
+        return kick;
     }
+    divided_pull(gm, square, &displacement)
 }
