@@ -39,8 +39,8 @@ returns-in-None-clause-damaged g c = λ name is.
     let same : c.page_name-name.result ≡ name = cc in
     no_body (sym same ∙ c.page_name-name.ensures.value)
     (λ tells.
-          body_missed (seen g.H.Host.meaning c.args.cache.now c.args.host.now) c.unwrap-bytes.result.now
-          c.page_name-name.result c.args.file c.args.index c.page_name-name.ensures.value
-          (lent_page c.page_name-name.result (no_file c.page_name-name.result.file) c.fetch_page.ensures.ran.writes
-          (rw c.unwrap-bytes.ensures at c.lent.ensures.view) tells)
-          c.in-None.ensures.none)
+    body_missed (seen g.H.Host.meaning c.args.cache.now c.args.host.now) c.unwrap-bytes.result.now
+    c.page_name-name.result c.args.file c.args.index c.page_name-name.ensures.value
+    (lent_page c.page_name-name.result (no_file c.page_name-name.result.file) c.fetch_page.ensures.ran.writes
+    (rw c.unwrap-bytes.ensures at c.lent.ensures.view) tells)
+    c.in-None.ensures.none)
