@@ -47,7 +47,7 @@ cat >"$work/crates/bench/proofs/Storage/fetch_group/Answers.antt" <<'ANSWERS'
 use Rattle.std.proofs.Common.{◌≡◌, ℕ, ◌+◌, ◌<◌, inr, List, [], ◌∷◌, arith, sym, ◌∙◌}
 use Rattle.std.specs.List.{AllByRecursion}
 use Rattle.nb_host.specs.declared.page_name.PageName.{PageName}
-use Rattle.nb_cache.specs.Names.{IsBefore, IsRising}
+use Rattle.nb_host.specs.Page.{IsBefore, IsRising}
 use Rattle.nb_cache.specs.InStep.{IsCacheable}
 use Rattle.bench.specs.Rising.{Rises}
 use Rattle.bench.proofs.Storage.fetch_group.Goals as goal
@@ -68,7 +68,7 @@ all_rising from (n ∷ names) rises =
 all_places : (from : ℕ) (names : List PageName) → Rises from names → AllByRecursion IsCacheable names
 all_places from [] rises = tt
 all_places from (n ∷ names) rises = (
-  record { least = omega (arith, rises.0); greatest = omega (arith, rises.0); page = rises.2 },
+  record { file = record { least = omega (arith, rises.0); greatest = omega (arith, rises.0) }; page = rises.2 },
   all_places (n.page + 1) names rises.3,
 )
 
