@@ -53,7 +53,7 @@ all_rising from (n ∷ names) rises =
 all_places : (from : ℕ) (names : List PageName) → Rises from names → AllByRecursion IsCacheable names
 all_places from [] rises = tt
 all_places from (n ∷ names) rises = (
-  record { least = omega (arith, rises.0); greatest = omega (arith, rises.0); page = rises.2 },
+  record { file = record { least = omega (arith, rises.0); greatest = omega (arith, rises.0) }; page = rises.2 },
   all_places (n.page + 1) names rises.3,
 )
 

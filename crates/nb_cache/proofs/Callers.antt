@@ -8,7 +8,7 @@ use Rattle.nb_host.specs.Meaning.{HostModel, Leads}
 use Rattle.nb_host.specs.Page.{page_of}
 use Rattle.nb_host.specs.declared.host.Channel.{Channel}
 use Rattle.nb_host.specs.declared.page_name.PageName.{PageName}
-use Rattle.nb_host.proofs.Callers.{agrees_itself, agrees_more, agrees_both, becomes_agrees, leads_none, leads_more, leads_then, rose_from_less}
+use Rattle.nb_host.proofs.Callers.{agrees_itself, agrees_more, agrees_both, leads_none, leads_more, leads_then, rose_from_less}
 use Rattle.nb_cache.specs.InStep.{IsCachedFile, Fits, IsInStep}
 use Rattle.nb_cache.specs.View.{CacheValue, overlaid, view_of, seen, Seen, Same}
 use Rattle.nb_cache.specs.Writes.{Writes, RanCached}

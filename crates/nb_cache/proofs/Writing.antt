@@ -1,5 +1,5 @@
 -- What each call of a cache that writes at once leaves alone.
-use Rattle.std.proofs.Common.{◌≡◌, ℕ, ◌≤◌, IsTrue, List, [], ◌∷◌, ◌++◌, refl, sym, ap, subst, ◌∙◌, Contains, arith}
+use Rattle.std.proofs.Common.{◌≡◌, ℕ, ◌≤◌, List, [], ◌∷◌, ◌++◌, refl, sym, ap, subst, ◌∙◌, Contains, arith}
 use Rattle.std.proofs.lemmas.List.Elements.{Contains-append_left}
 use Rattle.lru.proofs.Splits.{Contains-head, Contains-nil}
 use Rattle.nb_host.specs.Crashes.{Stays, AgreesOutside}

@@ -1,4 +1,4 @@
-use Rattle.std.proofs.Common.{◌≡◌, ◌∙◌, ◌++◌, ◌*◌, ◌≤◌, ℕ, List, length, take, drop, ap, sym, arith}
+use Rattle.std.proofs.Common.{◌≡◌, ◌∙◌, ◌++◌, ◌≤◌, ℕ, List, length, take, drop, ap, sym, arith}
 use Rattle.std.proofs.lemmas.List.{take_at, take_all}
 use Rattle.nb_host.specs.Image.{readable}
 use Rattle.nb_host.specs.Page.{page_of, page_start}

@@ -1,5 +1,4 @@
 use Rattle.std.proofs.Common.{◌∙◌, rules, arith}
-use Rattle.nb_host.proofs.Callers.{rose_from_less}
 use Rattle.nb_cache.proofs.Writing.{writes_reading}
 use Rattle.nb_cache.proofs.Fetching.{fetches_none, fetches_at, reads_both}
 use Rattle.nb_cache.proofs.cache.Cache.fetch.Goals as goal

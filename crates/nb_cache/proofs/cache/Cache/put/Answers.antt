@@ -1,4 +1,4 @@
-use Rattle.std.proofs.Common.{◌≡◌, ◌*◌, ◌⊎◌, ◌↔◌, inl, inr, [], ◌∷◌, ℕ, List, Contains, IsTrue, length, ap, sym, subst, ◌∙◌, refl, arith, rules}
+use Rattle.std.proofs.Common.{◌≡◌, ◌⊎◌, ◌↔◌, inl, inr, [], ◌∷◌, ℕ, List, Contains, ap, sym, subst, ◌∙◌, refl, arith, rules}
 use Rattle.lru.proofs.Splits.{Contains-head, Contains-tail}
 use Rattle.nb_host.proofs.Callers.{leads_none, page_written}
 use Rattle.nb_host.specs.Image.{FileBecomes, IsTorn}
