@@ -1,6 +1,7 @@
 //! Bodies in a file of pages, through the cache.
 
-ghost use Rattle.std.specs.Prelude.{◌≡◌, ◌≢◌, ◌↔◌, ℕ, ◌/◌, ◌%◌, ◌<◌, ◌≤◌, List, [], ◌∷◌, Contains, length, slice_get};
+ghost use Rattle.std.specs.Prelude.{◌≡◌, ◌≢◌, ◌↔◌, ℕ, ◌/◌, ◌%◌, ◌<◌, ◌≤◌};
+ghost use Rattle.std.specs.Prelude.{List, [], ◌∷◌, Contains, length, slice_get};
 ghost use Rattle.std.specs.Prelude.{IsTrue, IfSome, IfNone, IfOk, OnOk, OnErr, Err, Some};
 ghost use Rattle.nb_host.specs.Page.{page_of};
 ghost use Rattle.nb_host.specs.declared.page_name.PageName.{PageName as PageNames};
@@ -81,7 +82,8 @@ pub fn kick_at<H: Host>(
     ensures read { IfOk result (λ kick. IsTrue H.meaning.tells
         → HasBody (seen H.meaning cache.old host.old file) index
         × (kick ≡ kick_of (record_of (seen H.meaning cache.old host.old file) index))) }
-    ensures listed { IsTrue H.meaning.tells → (kick_for : Bodies → Vectors) (bodies : List Bodies) (body : Bodies)
+    ensures listed { IsTrue H.meaning.tells
+        → (kick_for : Bodies → Vectors) (bodies : List Bodies) (body : Bodies)
         → HoldsKickedBodies (seen H.meaning cache.old host.old file) kick_for bodies
         → slice_get bodies index ≡ Some body → IfOk result (λ kick. kick ≡ kick_for body) }
     ensures damaged { (name : PageNames) → result ≡ Err (OrderError.Damaged name)
@@ -162,8 +164,8 @@ fn read_record(bytes: &[u8], page: u64, index: u64) -> Option<KickedBody>
     }
 }
 
-/// Adds a body with its kick, in box units a tick, behind the others of a file of bodies. It gets this number,
-/// counted from 0, which is how many bodies the file has. After Fault its page may hold anything.
+/// Adds a body with its kick, in box units a tick, behind the others of a file of bodies. It gets this
+/// number, counted from 0, which is how many bodies the file has. After Fault its page may hold anything.
 pub fn push_body<H: Host>(
     host: &mut H,
     cache: &mut Cache,

@@ -112,7 +112,8 @@ fn add_place<H: Host, O: Order>(
     ensures read { OnOk result (IsTrue H.meaning.tells
         → AreReadTo O.rank_of (seen H.meaning cache.old host.old from) index places.old.entries
         → AreReadTo O.rank_of (seen H.meaning cache.old host.old from) (index + 1) places.new.entries) }
-    ensures page { (name : PageNames) → result ≡ Err (OrderError.Damaged name) → name ≡ page_of_body from index }
+    ensures page { (name : PageNames) → result ≡ Err (OrderError.Damaged name)
+        → name ≡ page_of_body from index }
     ensures cause { (name : PageNames) → result ≡ Err (OrderError.Damaged name) → IsTrue H.meaning.tells
         → AreReadTo O.rank_of (seen H.meaning cache.old host.old from) index places.old.entries
         → (HasBody (seen H.meaning cache.old host.old from) index → ⊥)

@@ -36,7 +36,7 @@ const VELOCITY_Z_AT: usize = 56;
 /// The flag of a body that has left the box. Any other's is 0.
 pub(crate) const OUT: u32 = 1;
 
-/// A page of bodies whose header is of the form, in the borrowed bytes of a page. A contract sees it as the bytes.
+/// A page of bodies whose header is of the form, in a page's borrowed bytes. A contract sees it as the bytes.
 #[derive(Debug, Drop)]
 pub struct BodyPage<'a> {
     bytes: &'a [u8],
@@ -56,8 +56,8 @@ impl<'a> Model for BodyPage<'a> {
 }
 
 impl<'a> BodyPage<'a> {
-    /// The page in these bytes, which is to have this number; else the first field of the header that isn't of
-    /// the form. The records aren't looked at.
+    /// The page in these bytes, which is to have this number; else the first field of the header that isn't
+    /// of the form. The records aren't looked at.
     pub fn check(bytes: &'a [u8], page: u64) -> Result<BodyPage<'a>, PageError>
         requires { length bytes.now ≡ PAGE_SIZE }
         ensures value { result ≡ read_body_page page bytes.now }

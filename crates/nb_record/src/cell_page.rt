@@ -14,7 +14,7 @@ use nb_host::PAGE_SIZE;
 use nb_key::Key;
 use std::marker::Model;
 
-/// A page of cells whose header is of the form, in the borrowed bytes of a page. A contract sees it as the bytes.
+/// A page of cells whose header is of the form, in a page's borrowed bytes. A contract sees it as the bytes.
 #[derive(Debug, Drop)]
 pub struct CellPage<'a> {
     bytes: &'a [u8],
@@ -34,8 +34,8 @@ impl<'a> Model for CellPage<'a> {
 }
 
 impl<'a> CellPage<'a> {
-    /// The page in these bytes, which is to have this number; else the first field of the header that isn't of
-    /// the form. The records aren't looked at.
+    /// The page in these bytes, which is to have this number; else the first field of the header that isn't
+    /// of the form. The records aren't looked at.
     pub fn check(bytes: &'a [u8], page: u64) -> Result<CellPage<'a>, PageError>
         requires { length bytes.now ≡ PAGE_SIZE }
         ensures value { result ≡ read_cell_page page bytes.now }
