@@ -1,1 +1,6 @@
 mod KeyLevels
+mod Rooms
+mod Ways
+mod Seeing
+mod Lefts
+mod TreeItems

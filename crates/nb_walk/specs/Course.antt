@@ -22,7 +22,7 @@ pub record CourseValue (Opening : Type 0) : Type 0 where
   pub target : At
   pub items : List Item
 
--- the step handed out a term, or moved on
+-- the step handed out a term, or moved on, and lowered what bounds the steps
 abbrev pub IsMove : Step → Type 0
 IsMove (step.Term term) = ⊤
 IsMove step.Moved = ⊤
@@ -30,7 +30,7 @@ IsMove (step.Wants name) = ⊥
 IsMove step.Finished = ⊥
 IsMove (step.Damaged name) = ⊥
 
--- the step waits, or had nothing to do
+-- the step waits, or had nothing to do, and left the course as it was
 abbrev pub IsStill : Step → Type 0
 IsStill (step.Term term) = ⊥
 IsStill step.Moved = ⊥
@@ -53,7 +53,7 @@ abbrev pub GoesOn : (List Item → List Term) → (List Item → ℕ) → List I
 GoesOn terms steps old new (step.Term term) = (terms old ≡ term ∷ terms new) × (steps new < steps old)
 GoesOn terms steps old new step.Moved = (terms old ≡ terms new) × (steps new < steps old)
 GoesOn terms steps old new (step.Wants name) = new ≡ old
-GoesOn terms steps old new step.Finished = terms old ≡ []
+GoesOn terms steps old new step.Finished = (terms old ≡ []) × (new ≡ old)
 GoesOn terms steps old new (step.Damaged name) = ⊥
 
 -- Over the tree of these bodies, where only pages of its files are shown, a course goes along the interaction list.

@@ -21,13 +21,13 @@ use Rattle.nb_walk.specs.declared.term.Term.{Term}
 use Rattle.nb_walk.specs.Angle.{level_of}
 use Rattle.nb_walk.specs.Terms.{Whole, body_terms, terms_to_depth}
 
--- the bodies in the box in Morton order, as they stand in the file of bodies
+-- the bodies in the box in Morton order, as they stand at the front of the file of bodies
 abbrev pub in_order : List Body → List Body
 in_order bodies = sorted_by by_key (in_box bodies)
 
--- so many of them from a number on
+-- so many bodies from a number on, of all in Morton order
 abbrev pub range_of : List Body → ℕ → ℕ → List Body
-range_of bodies from count = take count (drop from (in_order bodies))
+range_of bodies from count = take count (drop from (sorted_by by_key bodies))
 
 -- the bodies of the cell with this key
 abbrev pub bodies_under : ℕ → List Body → List Body
@@ -55,6 +55,8 @@ abbrev pub remaining_mass : List Body → List Item → ℕ
 remaining_mass bodies items = sum_by (item_mass bodies) items
 
 -- ---- the interaction list
+
+-- the terms of an item, whose bodies are taken in Morton order here
 
 abbrev pub item_terms : Whole → ℕ → List Body → Item → List Term
 item_terms is_whole leaf bodies (item.Cell key page) =

@@ -11,7 +11,7 @@ use Rattle.nb_record.specs.declared.cell.Cell.{Cell}
 use Rattle.nb_record.specs.declared.sizes.TheConstants.{BODIES_PER_PAGE}
 use Rattle.nb_record.specs.declared.tree.Tree.{Tree}
 use Rattle.nb_record.specs.Looking.{place_of_key}
-use Rattle.nb_record.specs.Cells.{first_body, IsTreeCell}
+use Rattle.nb_record.specs.Cells.{first_body, tree_cells, IsTreeCell}
 use Rattle.nb_record.specs.Table.{chain, cells_on_chain}
 use Rattle.nb_walk.specs.declared.item.Item.{Item}
 use Rattle.nb_walk.specs.declared.item.Item.TheVariants as item
@@ -28,40 +28,40 @@ pages_up_to file key (page ∷ pages) =
 abbrev pub pages_to : List ℕ → Tree → ℕ → ℕ → ℕ
 pages_to file tree key page = pages_up_to file key (chain file tree.pages page)
 
--- What is counted: for a leaf's bodies while the leaf's cell is still to be looked up, and once only they are left, so many
--- from a number on.
-pub record Counting : Type 0 where
+-- What the bodies of a leaf weigh, so many from a number on: while the leaf's cell is still to be looked up, and once only
+-- they are left.
+pub record Weights : Type 0 where
   pub of_leaf : ℕ → ℕ → ℕ
   pub of_bodies : ℕ → ℕ → ℕ
 
--- What an opened cell leads to, with so many levels below it: a leaf to its bodies, any other to the pages up to the
--- records of the octants that aren't empty, and to what these lead to.
-unfoldable pub below : Counting → List ℕ → Tree → ℕ → List Body → ℕ → ℕ → List Body → ℕ
-below counting file tree leaf all zero key bodies = counting.of_leaf (first_body all bodies) (length bodies)
-below counting file tree leaf all (suc depth) key bodies =
+-- The work under an opened cell, with so many levels below it: a leaf has its bodies, any other the pages up to the records
+-- of the octants that aren't empty, and the work under these.
+unfoldable pub work_below : Weights → List ℕ → Tree → ℕ → List Body → ℕ → ℕ → List Body → ℕ
+work_below weights file tree leaf all zero key bodies = weights.of_leaf (first_body all bodies) (length bodies)
+work_below weights file tree leaf all (suc depth) key bodies =
     let level = (deepest_level - 1) - depth in
-    if nat_le (length bodies) leaf then counting.of_leaf (first_body all bodies) (length bodies)
+    if nat_le (length bodies) leaf then weights.of_leaf (first_body all bodies) (length bodies)
     else sum_by
     (λ octant.
     let part = in_octant level bodies octant in
     let kid = 8 * key + octant in
     if nat_lt 0 (length part)
-    then pages_to file tree kid (kid % 2 ^ tree.bits) + below counting file tree leaf all depth kid part
+    then pages_to file tree kid (kid % 2 ^ tree.bits) + work_below weights file tree leaf all depth kid part
     else 0)
     octants
 
--- A cell that isn't empty counts the pages up to its record, and what it leads to.
-abbrev pub item_left : Counting → List ℕ → Tree → ℕ → List Body → Item → ℕ
-item_left counting file tree leaf bodies (item.Cell key page) =
+-- A cell that isn't empty counts the pages up to its record, and the work under it.
+abbrev pub item_left : Weights → List ℕ → Tree → ℕ → List Body → Item → ℕ
+item_left weights file tree leaf bodies (item.Cell key page) =
     let own = bodies_under key (in_box bodies) in
     if nat_lt 0 (length own)
     then pages_to file tree key (chain_page tree.bits key page)
-    + below counting file tree leaf (in_box bodies) (deepest_level - level_of key) key own
+    + work_below weights file tree leaf (in_box bodies) (deepest_level - level_of key) key own
     else 0
-item_left counting file tree leaf bodies (item.Bodies from count) = counting.of_bodies from count
+item_left weights file tree leaf bodies (item.Bodies from count) = weights.of_bodies from count
 
-abbrev pub items_left : Counting → List ℕ → Tree → ℕ → List Body → List Item → ℕ
-items_left counting file tree leaf bodies items = sum_by (item_left counting file tree leaf bodies) items
+abbrev pub items_left : Weights → List ℕ → Tree → ℕ → List Body → List Item → ℕ
+items_left weights file tree leaf bodies items = sum_by (item_left weights file tree leaf bodies) items
 
 -- on how many pages so many bodies of a file stand, from a number on
 abbrev pub pages_of : ℕ → ℕ → ℕ
@@ -80,8 +80,8 @@ remaining_steps file tree leaf bodies items =
 
 -- ---- over any pages
 
--- What bounds the steps whatever pages are shown: a cell weighs more than all that eight octants can weigh, and a later
--- page of its chain less than an earlier one.
+-- What bounds the steps whatever pages are shown: a cell weighs more than eight octants, each a 16th of it, can weigh with
+-- their chains, or than the bodies of a leaf, and a later page of its chain less than an earlier one.
 abbrev pub item_fuel : Tree → Item → ℕ
 item_fuel tree (item.Cell key page) = 16 ^ (deepest_level - level_of key) * (tree.pages + tree.count + 2) + (tree.pages - page)
 item_fuel tree (item.Bodies from count) = suc count
@@ -91,13 +91,15 @@ fuel tree items = sum_by (item_fuel tree) items
 
 -- ---- the items of a tree
 
--- a cell of the tree with this key, whose record stands on its chain at this page or later
+-- A cell of the tree with this key, whose record stands on its chain at this page or later. The cells from there on are
+-- all of the tree.
 pub record IsCellItem (params : Params) (bodies : List Body) (tree : Tree) (file : List ℕ) (key page : ℕ) : Type 0 where
   pub cell : Cell
   pub key_is : cell.key ≡ key
   pub is : IsTreeCell params (in_box bodies) (level_of key) cell
   pub within : chain_page tree.bits key page < tree.pages
   pub ahead : Contains (cells_on_chain file tree.pages (chain_page tree.bits key page)) cell
+  pub held : All (λ c. Contains (tree_cells params bodies) c) (cells_on_chain file tree.pages (chain_page tree.bits key page))
 
 -- an item of the tree; the root is one also where the tree has no cell
 abbrev pub IsItemOf : Params → List Body → Tree → List ℕ → Item → Type 0

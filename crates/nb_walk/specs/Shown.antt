@@ -1,5 +1,5 @@
 -- What a lender shows of the pages that a walk needs, and what a walk may ask of a tree.
-use Rattle.std.specs.Prelude.{◌≡◌, ℕ, ◌*◌, ◌/◌, ◌^◌, ◌<◌, ◌≤◌, ◌==◌, if◌then◌else◌, List, Option, Some, None, unsigned_abs}
+use Rattle.std.specs.Prelude.{◌≡◌, ◌≢◌, ℕ, ◌*◌, ◌/◌, ◌^◌, ◌<◌, ◌≤◌, ◌==◌, if◌then◌else◌, List, Option, Some, None, unsigned_abs}
 use Rattle.nb_model.specs.declared.body.At.{At}
 use Rattle.nb_model.specs.declared.body.V3.{V3}
 use Rattle.nb_model.specs.declared.params.Params.{Params}
@@ -23,7 +23,8 @@ abbrev pub shown_for : (cells bodies : ℕ → Option (List ℕ)) → Tree → I
 shown_for cells bodies tree (item.Cell key page) = cells (chain_page tree.bits key page)
 shown_for cells bodies tree (item.Bodies from count) = bodies (from / BODIES_PER_PAGE)
 
--- The item that is to be looked at next: the last. A tree without bodies has no cells, so over it nothing is left.
+-- The item that is to be looked at next: the last. A tree without bodies in the box has no cells, so over it nothing is
+-- left.
 abbrev pub next_item : Tree → List Item → Option Item
 next_item tree items = if tree.count == 0 then None else last_item items
 
@@ -33,6 +34,13 @@ pub record Waits (cells bodies : ℕ → Option (List ℕ)) (tree : Tree) (items
   pub next : next_item tree items ≡ Some item
   pub page : page_for tree item ≡ name
   pub unseen : shown_for cells bodies tree item ≡ None
+
+-- this page of the next item is shown: a step that blames a page blames the one that it looked at
+pub record LooksAt (cells bodies : ℕ → Option (List ℕ)) (tree : Tree) (items : List Item) (name : PageName) : Type 0 where
+  pub item : Item
+  pub next : next_item tree items ≡ Some item
+  pub page : page_for tree item ≡ name
+  pub shown : shown_for cells bodies tree item ≢ None
 
 -- ---- what a call asks for
 

@@ -1,6 +1,6 @@
 //! A walk that hands out its interaction list term by term.
 
-ghost use Rattle.std.specs.Prelude.{◌≡◌, ◌≢◌, ◌↔◌, ◌⊎◌, ℕ, ◌^◌, ◌<◌, ◌≤◌, None, [], ◌∷◌, ◌++◌, MatchOption};
+ghost use Rattle.std.specs.Prelude.{◌≡◌, ◌≢◌, ◌↔◌, ◌⊎◌, ℕ, ◌^◌, ◌<◌, ◌≤◌, None, [], ◌∷◌, ◌++◌, MatchOption, option_to_list};
 ghost use Rattle.nb_model.specs.declared.params.Params.{Params as Parameters};
 ghost use Rattle.nb_model.specs.Valid.{AreInRange, IsInBox};
 ghost use Rattle.nb_host.specs.declared.page_name.PageName.{PageName as Names};
@@ -11,7 +11,7 @@ ghost use Rattle.nb_walk.specs.Terms.{Whole};
 ghost use Rattle.nb_walk.specs.Items.{chain_page, page_for, root_items};
 ghost use Rattle.nb_walk.specs.Left.{fuel};
 ghost use Rattle.nb_walk.specs.Room.{HasRoom};
-ghost use Rattle.nb_walk.specs.Shown.{Waits, next_item};
+ghost use Rattle.nb_walk.specs.Shown.{LooksAt, Waits, next_item};
 ghost use Rattle.nb_walk.specs.Course.{IsMove, IsStill, IsFormed, OverTree};
 
 use crate::item::Item;
@@ -71,6 +71,8 @@ impl<O: Opening> Course<O> {
         requires pages { tree.now.pages < 2 ^ 48 }
         ensures wants { (name : Names) → ((result ≡ Step.Wants name)
             ↔ Waits (L.cells lender.now) (L.bodies lender.now) tree.now self.old.items name) }
+        ensures damaged { (name : Names) → result ≡ Step.Damaged name
+            → LooksAt (L.cells lender.now) (L.bodies lender.now) tree.now self.old.items name }
         ensures finished { (result ≡ Step.Finished) ↔ (next_item tree.now self.old.items ≡ None) }
         ensures same { IsStill result → self.new ≡ self.old }
         ensures kept { (self.new.opening ≡ self.old.opening) × (self.new.target ≡ self.old.target) }
@@ -82,26 +84,28 @@ impl<O: Opening> Course<O> {
         if tree.count == 0 {
             return Step::Finished;
         }
-        match self.items.pop() {
-            None => Step::Finished,
-            Some(Item::Cell(key, page)) => {
-                let opening = &self.opening;
-                cell_step(
-                    &mut self.items,
-                    key,
-                    page,
-                    opening,
-                    &self.target,
-                    params,
-                    tree,
-                    lender,
-                )
+        let Course {
+            opening,
+            target,
+            items,
+        } = self;
+        let Some(item) = take_last(items) else {
+            return Step::Finished;
+        };
+        match item {
+            Item::Cell(key, page) => {
+                cell_step(items, key, page, opening, target, params, tree, lender)
             }
-            Some(Item::Bodies(from, count)) => {
-                bodies_step(&mut self.items, from, count, tree, lender)
-            }
+            Item::Bodies(from, count) => bodies_step(items, from, count, tree, lender),
         }
     }
+}
+
+/// Takes the next item.
+fn take_last(items: &mut Items) -> Option<Item>
+    ensures { items.old.items ≡ items.new.items ++ option_to_list result }
+{
+    items.pop()
 }
 
 /// A step at a cell, which was taken from the items.
@@ -123,6 +127,8 @@ fn cell_step<O: Opening, L: Lender>(
     requires room { HasRoom (items.old.items ++ item.Cell key page ∷ []) }
     ensures wants { (name : Names) → ((result ≡ Step.Wants name)
         ↔ ((name ≡ page_for tree.now (item.Cell key page)) × (L.cells lender.now (chain_page tree.now.bits key page) ≡ None))) }
+    ensures damaged { (name : Names) → result ≡ Step.Damaged name
+        → (name ≡ page_for tree.now (item.Cell key page)) × (L.cells lender.now (chain_page tree.now.bits key page) ≢ None) }
     ensures unfinished { result ≢ Step.Finished }
     ensures room { HasRoom items.new.items }
     ensures same { IsStill result → items.new.items ≡ items.old.items ++ item.Cell key page ∷ [] }
@@ -157,6 +163,8 @@ fn bodies_step<L: Lender>(items: &mut Items, from: u64, count: u64, tree: &Tree,
     requires room { HasRoom (items.old.items ++ item.Bodies from count ∷ []) }
     ensures wants { (name : Names) → ((result ≡ Step.Wants name)
         ↔ ((name ≡ page_for tree.now (item.Bodies from count)) × (L.bodies lender.now name.page ≡ None))) }
+    ensures damaged { (name : Names) → result ≡ Step.Damaged name
+        → (name ≡ page_for tree.now (item.Bodies from count)) × (L.bodies lender.now name.page ≢ None) }
     ensures unfinished { result ≢ Step.Finished }
     ensures room { HasRoom items.new.items }
     ensures same { IsStill result → items.new.items ≡ items.old.items ++ item.Bodies from count ∷ [] }

@@ -2,6 +2,7 @@
 
 ghost use Rattle.std.specs.Prelude.{◌≡◌, ◌<◌, ◌≤◌, ◌*◌, ◌+◌, [], ◌∷◌, ◌++◌, length};
 ghost use Rattle.nb_model.specs.Gravity.{octants};
+ghost use Rattle.nb_key.specs.Morton.{IsKey};
 ghost use Rattle.nb_record.specs.Records.{IsCell};
 ghost use Rattle.nb_walk.specs.declared.item.Item.TheVariants as item;
 ghost use Rattle.nb_walk.specs.Angle.{level_of};
@@ -20,6 +21,7 @@ pub(crate) type Items = ArrayVec<Item, MOST_ITEMS>;
 
 /// Puts the octants of a cell in its place, the first last.
 fn push_kids(items: &mut Items, key: Key, kids: u8)
+    requires key { IsKey key }
     requires level { level_of key < 21 }
     requires room { HasRoom items.old.items }
     requires place { length items.old.items ≤ 7 * level_of key }

@@ -5,6 +5,7 @@
 mod course;
 mod item;
 mod items;
+mod laws;
 mod opening;
 mod sight;
 mod step;
@@ -12,6 +13,7 @@ mod term;
 
 pub use course::Course;
 pub use item::Item;
+pub use laws::law_interaction_list;
 pub use opening::{ByAngle, Opening};
 pub use step::Step;
 pub use term::Term;

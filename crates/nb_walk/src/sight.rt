@@ -1,6 +1,6 @@
 //! A look at the page of a cell's chain.
 
-ghost use Rattle.std.specs.Prelude.{◌≡◌, ◌↔◌, ℕ, ◌+◌, ◌^◌, ◌<◌, ◌≤◌, None};
+ghost use Rattle.std.specs.Prelude.{◌≡◌, ◌≢◌, ◌↔◌, ℕ, ◌+◌, ◌^◌, ◌<◌, ◌≤◌, None};
 ghost use Rattle.nb_host.specs.declared.page_name.PageName.{PageName as Names};
 ghost use Rattle.nb_record.specs.Records.{IsCell};
 ghost use Rattle.nb_walk.specs.declared.item.Item.TheVariants as item;
@@ -40,6 +40,8 @@ pub(crate) fn look_at<'a, L: Lender>(tree: &Tree, lender: &'a L, key: Key, page:
     requires bits { tree.now.bits ≤ 18 }
     ensures wants { (name : Names) → ((result ≡ Sight.Wants name)
         ↔ ((name ≡ page_for tree.now (item.Cell key page)) × (L.cells lender.now (chain_page tree.now.bits key page) ≡ None))) }
+    ensures damaged { (name : Names) → result ≡ Sight.Damaged name
+        → (name ≡ page_for tree.now (item.Cell key page)) × (L.cells lender.now (chain_page tree.now.bits key page) ≢ None) }
     ensures next { IfNext result (λ next. (page < next) × (next < tree.now.pages)) }
     ensures form { IfCell result IsCell }
     ensures key { IfCell result (λ cell. cell.key ≡ key) }
