@@ -49,7 +49,7 @@ not_or true far test is = ap (λ t. not t && far) is
 not_or false true test is = ap (λ t. not t && true) is
 not_or false false test is = ap (λ t. not t && false) is
 
-same_test : (inside : Bool) (a b : ℕ) → (IsTrue inside ↔ (a ≡ b)) → inside ≡ eqb a b
+pub same_test : (inside : Bool) (a b : ℕ) → (IsTrue inside ↔ (a ≡ b)) → inside ≡ eqb a b
 same_test true a b holds = sym (eq-eqb a b (holds.0 refl))
 same_test false a b holds = sym (ne_eqb a b (λ e. let no = holds.1 e in cc))
 

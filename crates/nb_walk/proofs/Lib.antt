@@ -4,3 +4,6 @@ mod Ways
 mod Seeing
 mod Lefts
 mod TreeItems
+mod Pulling
+mod Stepping
+mod Courses

@@ -64,20 +64,20 @@ module _ (file : List ℕ) (tree : Tree) (key page i : ℕ) (leads : LeadsOn fil
 
 -- ---- what is seen
 
-module _ (params : Params) (bodies : List Body) (tree : Tree) (file : List ℕ) (table : IsCellTable file tree.bits tree.pages (tree_cells params bodies)) where
-  -- what the answer of a search says
-  abbrev pub Seen : ℕ → ℕ → Look → Type 0
-  Seen key page (Found cell) =
-      (cell.key ≡ key) × IsTreeCell params (in_box bodies) (level_of key) cell × (pages_to file tree key (chain_page tree.bits key page) ≡ 1)
-  Seen key page (Next next) =
-      (next < tree.pages) × IsCellItem params bodies tree file key next
-      × (pages_to file tree key (chain_page tree.bits key page) ≡ suc (pages_to file tree key (chain_page tree.bits key next)))
-  Seen key page (Wants name) = Unit {0}
-  Seen key page Gone = ⊥
-  Seen key page (Bad bad) = ⊥
+-- what the answer of a search says
+abbrev pub Seen : Params → List Body → Tree → List ℕ → ℕ → ℕ → Look → Type 0
+Seen params bodies tree file key page (Found cell) =
+    (cell.key ≡ key) × IsTreeCell params (in_box bodies) (level_of key) cell × (pages_to file tree key (chain_page tree.bits key page) ≡ 1)
+Seen params bodies tree file key page (Next next) =
+    (next < tree.pages) × IsCellItem params bodies tree file key next
+    × (pages_to file tree key (chain_page tree.bits key page) ≡ suc (pages_to file tree key (chain_page tree.bits key next)))
+Seen params bodies tree file key page (Wants name) = Unit {0}
+Seen params bodies tree file key page Gone = ⊥
+Seen params bodies tree file key page (Bad bad) = ⊥
 
+module _ (params : Params) (bodies : List Body) (tree : Tree) (file : List ℕ) (table : IsCellTable file tree.bits tree.pages (tree_cells params bodies)) where
   seen_found : (key page i : ℕ) → IsCellItem params bodies tree file key page → place_of_key key (page_of file (chain_page tree.bits key page)) ≡ Some i
-      → Seen key page (Found (cell_of (cell_record i (page_of file (chain_page tree.bits key page)))))
+      → Seen params bodies tree file key page (Found (cell_of (cell_record i (page_of file (chain_page tree.bits key page)))))
   seen_found key page i item is =
       let at = chain_page tree.bits key page in
       let bytes = page_of file at in
@@ -94,7 +94,7 @@ module _ (params : Params) (bodies : List Body) (tree : Tree) (file : List ℕ) 
       (found.1, at_its_level params (in_box bodies) (level_of key) cell in_tree at_level, one_page file tree key at i leads item.within is)
 
   seen_next : (key page : ℕ) → IsCellItem params bodies tree file key page → place_of_key key (page_of file (chain_page tree.bits key page)) ≡ None
-      → (next_of file (chain_page tree.bits key page) ≡ 0 → ⊥) × (next_of file (chain_page tree.bits key page) ≢ 0 → Seen key page (Next (next_of file (chain_page tree.bits key page))))
+      → (next_of file (chain_page tree.bits key page) ≡ 0 → ⊥) × (next_of file (chain_page tree.bits key page) ≢ 0 → Seen params bodies tree file key page (Next (next_of file (chain_page tree.bits key page))))
   seen_next key page item is =
       let at = chain_page tree.bits key page in
       let bytes = page_of file at in
@@ -102,33 +102,32 @@ module _ (params : Params) (bodies : List Body) (tree : Tree) (file : List ℕ) 
       let cells = tree_cells params bodies in
       let leads = leads_on file tree.bits tree.pages cells table in
       let lacks = (key_lacking bytes key).0 is in
-      let not_here : Contains (cells_of bytes) item.cell → ⊥ = λ here. All-contains (λ c. c.key ≢ key) (cells_of bytes) item.cell lacks here item.key_is in
-      (
+      let not_here : Contains (cells_of bytes) item.cell → ⊥ = λ here. All-contains (λ c. c.key ≢ key) (cells_of bytes) item.cell lacks here item.key_is in (
         λ none. not_here (subst (λ l. Contains l item.cell) (cells_end file tree.pages at item.within none) item.ahead),
         λ some.
-          let later = leads.later at item.within some in
-          let there : chain_page tree.bits key next ≡ next = cond-false (eqb next 0) (key % 2 ^ tree.bits) next (ne_eqb next 0 some) in
-          let follow = cells_follow file tree.bits tree.pages cells table at item.within some in
-          let ahead : Contains (cells_on_chain file tree.pages next) item.cell = elim (Contains-append_cases (cells_of bytes) (cells_on_chain file tree.pages next) item.cell (subst (λ l. Contains l item.cell) follow item.ahead)) [
-            | inl here ↦ absurd (not_here here)
-            | inr behind ↦ behind
-          ] in
-          let held = (all_split (λ c. Contains cells c) (cells_of bytes) (cells_on_chain file tree.pages next) (subst (All (λ c. Contains cells c)) follow item.held)).1 in
-          let on : IsCellItem params bodies tree file key next = record {
-            cell = item.cell;
-            key_is = item.key_is;
-            is = item.is;
-            within = subst (λ p. p < tree.pages) (sym there) (leads.within at item.within);
-            ahead = subst (λ p. Contains (cells_on_chain file tree.pages p) item.cell) (sym there) ahead;
-            held = subst (λ p. All (λ c. Contains cells c) (cells_on_chain file tree.pages p)) (sym there) held;
-          } in
-          (leads.within at item.within, on, more_pages file tree key at 0 leads item.within is some ∙ ap (λ p. suc (pages_to file tree key p)) (sym there)),
+            let later = leads.later at item.within some in
+            let there : chain_page tree.bits key next ≡ next = cond-false (eqb next 0) (key % 2 ^ tree.bits) next (ne_eqb next 0 some) in
+            let follow = cells_follow file tree.bits tree.pages cells table at item.within some in
+            let ahead : Contains (cells_on_chain file tree.pages next) item.cell = elim (Contains-append_cases (cells_of bytes) (cells_on_chain file tree.pages next) item.cell (subst (λ l. Contains l item.cell) follow item.ahead)) [
+              | inl here ↦ absurd (not_here here)
+              | inr behind ↦ behind
+            ] in
+            let held = (all_split (λ c. Contains cells c) (cells_of bytes) (cells_on_chain file tree.pages next) (subst (All (λ c. Contains cells c)) follow item.held)).1 in
+            let on : IsCellItem params bodies tree file key next = record {
+              cell = item.cell;
+              key_is = item.key_is;
+              is = item.is;
+              within = subst (λ p. p < tree.pages) (sym there) (leads.within at item.within);
+              ahead = subst (λ p. Contains (cells_on_chain file tree.pages p) item.cell) (sym there) ahead;
+              held = subst (λ p. All (λ c. Contains cells c) (cells_on_chain file tree.pages p)) (sym there) held;
+            } in
+            (leads.within at item.within, on, more_pages file tree key at 0 leads item.within is some ∙ ap (λ p. suc (pages_to file tree key p)) (sym there)),
       )
 
   pub seen : (key page : ℕ) (shown : Option (List ℕ)) (look : Look) → IsCellItem params bodies tree file key page
       → ((bytes : List ℕ) → shown ≡ Some bytes → bytes ≡ page_of file (chain_page tree.bits key page))
-      → IsLook key (chain_page tree.bits key page) shown look → Seen key page look
-  seen key page None look item same is = subst (Seen key page) (sym is) tt
+      → IsLook key (chain_page tree.bits key page) shown look → Seen params bodies tree file key page look
+  seen key page None look item same is = subst (Seen params bodies tree file key page) (sym is) tt
   seen key page (Some bytes) look item same is =
       let at = chain_page tree.bits key page in
       let theirs = same bytes refl in
@@ -137,9 +136,9 @@ module _ (params : Params) (bodies : List Body) (tree : Tree) (file : List ℕ) 
       seen_on key page look item (place_of_key key (page_of file at)) refl (subst (λ b. IsLookOn at b (place_of_key key b) look) theirs looked)
     where
       seen_on : (key page : ℕ) (look : Look) (item : IsCellItem params bodies tree file key page) (place : Option ℕ) → place_of_key key (page_of file (chain_page tree.bits key page)) ≡ place
-          → IsLookOn (chain_page tree.bits key page) (page_of file (chain_page tree.bits key page)) place look → Seen key page look
-      seen_on key page look item (Some i) there (inl found) = subst (Seen key page) (sym found.1) (seen_found key page i item there)
-      seen_on key page look item (Some i) there (inr bad) = 
+          → IsLookOn (chain_page tree.bits key page) (page_of file (chain_page tree.bits key page)) place look → Seen params bodies tree file key page look
+      seen_on key page look item (Some i) there (inl found) = subst (Seen params bodies tree file key page) (sym found.1) (seen_found key page i item there)
+      seen_on key page look item (Some i) there (inr bad) =
           let bytes = page_of file (chain_page tree.bits key page) in
           absurd (bad.0 (All-contains IsCell (cells_of bytes) (cell_of (cell_record i bytes)) (table.records (chain_page tree.bits key page) item.within) (on_page bytes key i there)))
       seen_on key page look item None there is =
@@ -148,5 +147,14 @@ module _ (params : Params) (bodies : List Body) (tree : Tree) (file : List ℕ) 
           let both = seen_next key page item there in
           elim (cases_eq next 0) [
             | inl none ↦ absurd (both.0 none)
-            | inr some ↦ subst (Seen key page) (sym (is ∙ cond-false (eqb next 0) Gone (Next next) (ne_eqb next 0 some))) (both.1 some)
+            | inr some ↦ subst (Seen params bodies tree file key page) (sym (is ∙ cond-false (eqb next 0) Gone (Next next) (ne_eqb next 0 some))) (both.1 some)
           ]
+
+-- the same, over the tree's files, at the page that was looked at
+pub shown_seen : (params : Params) (bodies : List Body) (tree : Tree) (files : ℕ → List ℕ) (cells_shown bodies_shown : ℕ → Option (List ℕ)) (key page at : ℕ) (look : Look)
+    → IsTreeOf tree files params bodies → Shows cells_shown bodies_shown tree files → IsCellItem params bodies tree (files tree.cells) key page
+    → at ≡ chain_page tree.bits key page → IsLook key at (cells_shown at) look → Seen params bodies tree (files tree.cells) key page look
+shown_seen params bodies tree files cells_shown bodies_shown key page at look of_tree shows item there is =
+    let look_is = subst (λ p. IsLook key p (cells_shown p) look) there is in
+    seen params bodies tree (files tree.cells) of_tree.table key page (cells_shown (chain_page tree.bits key page)) look item
+    (λ bytes shown. shows.cell (chain_page tree.bits key page) bytes shown) look_is

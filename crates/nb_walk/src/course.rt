@@ -1,6 +1,6 @@
 //! A walk that hands out its interaction list term by term.
 
-ghost use Rattle.std.specs.Prelude.{◌≡◌, ◌≢◌, ◌↔◌, ◌⊎◌, ℕ, ◌^◌, ◌<◌, ◌≤◌, None, [], ◌∷◌, ◌++◌, MatchOption, option_to_list};
+ghost use Rattle.std.specs.Prelude.{◌≡◌, ◌≢◌, ◌↔◌, ◌⊎◌, ℕ, ◌^◌, ◌<◌, ◌≤◌, None, [], ◌∷◌, ◌++◌, length, MatchOption, option_to_list};
 ghost use Rattle.nb_model.specs.declared.params.Params.{Params as Parameters};
 ghost use Rattle.nb_model.specs.Valid.{AreInRange, IsInBox};
 ghost use Rattle.nb_host.specs.declared.page_name.PageName.{PageName as Names};
@@ -103,7 +103,8 @@ impl<O: Opening> Course<O> {
 
 /// Takes the next item.
 fn take_last(items: &mut Items) -> Option<Item>
-    ensures { items.old.items ≡ items.new.items ++ option_to_list result }
+    ensures items { items.old.items ≡ items.new.items ++ option_to_list result }
+    ensures empty { result ≡ None → length items.old.items ≡ 0 }
 {
     items.pop()
 }

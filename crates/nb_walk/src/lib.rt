@@ -17,3 +17,6 @@ pub use laws::law_interaction_list;
 pub use opening::{ByAngle, Opening};
 pub use step::Step;
 pub use term::Term;
+
+#[cfg(test)]
+mod tests;

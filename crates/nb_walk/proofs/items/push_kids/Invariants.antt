@@ -8,5 +8,5 @@ abbrev pub invariant-loop-i : goal.invariant-loop-i
 invariant-loop-i l = record {
   items : l.items.items ≡ l.fn.items.items ++ kid_items l.key l.kids (drop (8 - l.i) octants);
   room : HasRoom l.items.items;
-  place : length l.items.items ≤ 7 * level_of l.key + l.i
+  place : length l.items.items ≤ 7 * level_of l.key + l.i;
 }
