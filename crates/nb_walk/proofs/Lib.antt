@@ -7,3 +7,4 @@ mod TreeItems
 mod Pulling
 mod Stepping
 mod Courses
+mod Remaining
