@@ -1,13 +1,12 @@
 -- The level that a key tells is its level.
-use Rattle.std.proofs.Common.{◌≡◌, ℕ, zero, suc, ◌+◌, ◌-◌, ◌*◌, ◌/◌, ◌^◌, ◌<◌, ◌≤◌, cond, ltb, eqb, Bool, true, false, not, ◌&&◌, ◌||◌, ◌↔◌, IsTrue, sym, ap, ◌∙◌, refl, arith, subst, inl, inr}
-use Rattle.std.specs.Prelude.{◌≢◌}
+use Rattle.std.proofs.Common.{◌≡◌, ℕ, zero, suc, ◌+◌, ◌*◌, ◌/◌, ◌^◌, ◌<◌, ◌≤◌, ltb, eqb, Bool, true, false, not, ◌&&◌, ◌||◌, ◌↔◌, IsTrue, sym, ap, ◌∙◌, refl, arith, subst}
 use Rattle.std.proofs.Math.Nat.{pow-suc}
 use Rattle.std.proofs.lemmas.Bool.{cond-true, cond-false, lt-ltb, le-ltb, eq-eqb, ne_eqb}
 use Rattle.nb_model.specs.declared.body.At.{At}
 use Rattle.nb_model.specs.declared.params.Params.{Params}
 use Rattle.nb_model.specs.Gravity.{is_far}
 use Rattle.nb_key.specs.Morton.{key_at, IsKeyAt, IsKey}
-use Rattle.nb_key.proofs.Levels.{eight_pos, child_at, level_above, root_is}
+use Rattle.nb_key.proofs.Levels.{eight_pos, child_at}
 use Rattle.nb_walk.specs.Angle.{level_from, level_of, by_angle}
 
 from_zero : (n key : ℕ) → key < 8 → level_from n key ≡ 0

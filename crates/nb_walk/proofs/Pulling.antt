@@ -1,19 +1,18 @@
 -- The interaction list by angle pulls as the definition's force does.
-use Rattle.std.proofs.Common.{◌≡◌, ℕ, zero, suc, ◌+◌, ◌-◌, ◌*◌, ◌<◌, ◌≤◌, ◌↔◌, eqb, Bool, true, false, not, ◌&&◌, List, [], ◌∷◌, ◌++◌, length, map, sym, ap, ◌∙◌, refl, arith, subst, inl, inr}
-use Rattle.std.specs.Prelude.{◌≢◌, ◌⊎◌, IsTrue, filter, All}
+use Rattle.std.proofs.Common.{◌≡◌, ℕ, zero, suc, ◌+◌, ◌-◌, ◌*◌, ◌<◌, ◌≤◌, ◌↔◌, eqb, true, false, not, ◌&&◌, List, [], ◌∷◌, ◌++◌, length, map, sym, ap, ◌∙◌, refl, arith, subst, inl, inr}
+use Rattle.std.specs.Prelude.{◌≢◌, IsTrue, All}
 use Rattle.std.specs.List.{flat_map}
 use Rattle.std.proofs.lemmas.Bool.{cases_lt, eq-eqb}
 use Rattle.std.proofs.lemmas.List.{map-append}
 use Rattle.std.proofs.lemmas.List.Concat.{flat_map-cons}
-use Rattle.std.proofs.lemmas.List.Elements.{All-nil, All-cons, All-head, All-tail, All-filter}
+use Rattle.std.proofs.lemmas.List.Elements.{All-head, All-tail, All-filter}
 use Rattle.nb_model.specs.declared.body.At.{At}
-use Rattle.nb_model.specs.declared.body.V3.{V3}
 use Rattle.nb_model.specs.declared.body.Body.{Body}
 use Rattle.nb_model.specs.declared.params.Params.{Params}
 use Rattle.nb_model.specs.Valid.{IsInBox}
-use Rattle.nb_model.specs.Vector.{zero_vector, plus, vector_sum}
+use Rattle.nb_model.specs.Vector.{plus, vector_sum}
 use Rattle.nb_model.specs.Octree.{in_octant, is_same_cell, total_mass, centre_of_mass}
-use Rattle.nb_model.specs.Gravity.{pull, is_far, cell_holds, is_accepted, direct_sum, octants, force_on}
+use Rattle.nb_model.specs.Gravity.{pull, is_far, is_accepted, direct_sum, octants, force_on}
 use Rattle.nb_model.proofs.Facts.{force_on-nil, force_on-accepted, force_on-small_leaf, force_on-deepest_leaf, force_on-divided}
 use Rattle.nb_key.specs.Morton.{key_at, IsKeyAt}
 use Rattle.nb_key.proofs.Levels.{child_at}
@@ -25,7 +24,7 @@ use Rattle.std.proofs.lemmas.List.Sorted.{All-permutation}
 use Rattle.nb_record.proofs.Callers.{either, filter_yes, plus-zero, vector_sum-cons, vector_sum-append, octants_agree, octant_of_cell, all_in_cell, in_root, permuted, same_force_of_cell}
 use Rattle.nb_walk.specs.declared.term.Term.{Term}
 use Rattle.nb_walk.specs.declared.term.Term.TheVariants as term
-use Rattle.nb_walk.specs.Angle.{level_of, by_angle}
+use Rattle.nb_walk.specs.Angle.{by_angle}
 use Rattle.nb_walk.specs.Items.{in_order}
 use Rattle.nb_walk.specs.Terms.{Whole, body_terms, terms_to_depth, term_pull, pulls}
 use Rattle.nb_walk.proofs.KeyLevels.{level_is, same_test}

@@ -1,6 +1,6 @@
 -- What is left, as the terms to come and as sums over the items.
-use Rattle.std.proofs.Common.{◌≡◌, ℕ, zero, suc, ◌+◌, ◌-◌, ◌*◌, ◌<◌, ◌≤◌, eqb, Bool, true, false, not, List, [], ◌∷◌, ◌++◌, length, map, sym, ap, ◌∙◌, refl, arith, subst, inl, inr}
-use Rattle.std.specs.Prelude.{◌≢◌, ◌⊎◌, filter, sum_by, All}
+use Rattle.std.proofs.Common.{◌≡◌, ℕ, zero, suc, ◌+◌, ◌-◌, ◌*◌, eqb, true, not, List, [], ◌∷◌, length, map, sym, ap, ◌∙◌, refl, arith, subst, inl, inr}
+use Rattle.std.specs.Prelude.{◌≢◌, sum_by, All}
 use Rattle.std.specs.List.{flat_map}
 use Rattle.std.proofs.lemmas.Bool.{cases_lt}
 use Rattle.std.proofs.lemmas.List.Concat.{flat_map-cons}
@@ -11,12 +11,12 @@ use Rattle.nb_model.specs.declared.body.At.{At}
 use Rattle.nb_model.specs.declared.body.Body.{Body}
 use Rattle.nb_model.specs.declared.params.Params.{Params}
 use Rattle.nb_model.specs.Valid.{IsInBox}
-use Rattle.nb_model.specs.Vector.{zero_vector, plus, vector_sum}
+use Rattle.nb_model.specs.Vector.{plus}
 use Rattle.nb_model.specs.Octree.{in_octant, total_mass, centre_of_mass}
-use Rattle.nb_model.specs.Gravity.{octants, force_on}
+use Rattle.nb_model.specs.Gravity.{octants}
 use Rattle.nb_model.specs.Leapfrog.{in_box}
 use Rattle.nb_model.proofs.Facts.{total_mass-octants}
-use Rattle.nb_key.specs.Morton.{key_at, IsKey, IsKeyAt}
+use Rattle.nb_key.specs.Morton.{key_at, IsKeyAt}
 use Rattle.nb_key.proofs.Levels.{root_is}
 use Rattle.nb_record.specs.declared.tree.Tree.{Tree}
 use Rattle.nb_record.specs.Order.{by_key}

@@ -1,12 +1,12 @@
 -- The room that a walk's items need.
-use Rattle.std.proofs.Common.{◌≡◌, ℕ, zero, suc, ◌+◌, ◌-◌, ◌*◌, ◌/◌, ◌%◌, ◌^◌, ◌<◌, ◌≤◌, cond, eqb, Bool, true, false, List, [], ◌∷◌, ◌++◌, length, drop, Option, Some, None, sym, ap, ◌∙◌, refl, arith, subst, inl, inr}
-use Rattle.std.specs.Prelude.{◌≢◌, ◌⊎◌, slice_get, All}
+use Rattle.std.proofs.Common.{◌≡◌, ℕ, zero, suc, ◌+◌, ◌-◌, ◌*◌, ◌/◌, ◌%◌, ◌^◌, ◌<◌, ◌≤◌, cond, eqb, List, [], ◌∷◌, ◌++◌, length, drop, Some, sym, ap, ◌∙◌, refl, arith, subst, inl, inr}
+use Rattle.std.specs.Prelude.{◌≢◌, ◌⊎◌, slice_get}
 use Rattle.std.proofs.Math.Nat.{pow-suc}
 use Rattle.std.proofs.lemmas.List.{length_push}
 use Rattle.std.proofs.lemmas.List.Elements.{All-push, All-pop}
 use Rattle.std.proofs.lemmas.Option.{slice_get_within}
 use Rattle.nb_model.specs.Gravity.{octants}
-use Rattle.nb_key.specs.Morton.{IsKey, IsKeyAt}
+use Rattle.nb_key.specs.Morton.{IsKey}
 use Rattle.std.proofs.lemmas.Bool.{cases_lt}
 use Rattle.nb_key.proofs.Levels.{eight_mono, eight_pos, child_is, level_above}
 use Rattle.nb_record.specs.declared.cell.Cell.{Cell}

@@ -1,26 +1,24 @@
 -- What a look on the page of a cell's chain sees over a tree.
-use Rattle.std.proofs.Common.{◌≡◌, ℕ, zero, suc, ◌+◌, ◌-◌, ◌*◌, ◌/◌, ◌%◌, ◌^◌, ◌<◌, ◌≤◌, cond, eqb, Bool, true, false, is_some, List, [], ◌∷◌, ◌++◌, length, Option, Some, None, Ok, sym, ap, ◌∙◌, refl, arith, subst, inl, inr}
-use Rattle.std.specs.Prelude.{◌≢◌, ◌⊎◌, slice_get, filter, All, Contains, IsPermutation}
-use Rattle.std.proofs.lemmas.Bool.{cond-true, cond-false, eq-eqb, ne_eqb, cases_eq}
-use Rattle.std.proofs.lemmas.List.Elements.{All-contains, All-contains_itself, All-cons, All-head, All-tail, Contains-append_cases, Contains-append_left}
+use Rattle.std.proofs.Common.{◌≡◌, ℕ, suc, ◌%◌, ◌^◌, ◌<◌, cond, eqb, is_some, List, [], ◌∷◌, ◌++◌, Option, Some, None, Ok, sym, ap, ◌∙◌, refl, arith, subst, inl, inr}
+use Rattle.std.specs.Prelude.{◌≢◌, All, Contains}
+use Rattle.std.proofs.lemmas.Bool.{cond-false, ne_eqb, cases_eq}
+use Rattle.std.proofs.lemmas.List.Elements.{All-contains, All-cons, All-head, All-tail, Contains-append_cases, Contains-append_left}
 use Rattle.std.proofs.lemmas.Option.{slice_get_within, get_or_from_slice_get}
 use Rattle.nb_model.specs.declared.body.Body.{Body}
 use Rattle.nb_model.specs.declared.params.Params.{Params}
 use Rattle.nb_model.specs.Leapfrog.{in_box}
-use Rattle.nb_key.specs.Morton.{IsKey, IsKeyAt}
+use Rattle.nb_key.specs.Morton.{IsKeyAt}
 use Rattle.nb_host.specs.Page.{page_of}
 use Rattle.nb_record.specs.declared.answer.Look.{Look}
 use Rattle.nb_record.specs.declared.answer.Look.TheVariants.{Found, Next, Wants, Gone, Bad}
-use Rattle.nb_record.specs.declared.cell.Cell.{Cell}
 use Rattle.nb_record.specs.declared.tree.Tree.{Tree}
-use Rattle.nb_record.specs.Fields.{word}
-use Rattle.nb_record.specs.Pages.{page_count, page_next, read_cell_page}
+use Rattle.nb_record.specs.Pages.{read_cell_page}
 use Rattle.nb_record.specs.Records.{cell_record, cell_of, cells_of, IsCell}
 use Rattle.nb_record.specs.Looking.{place_of_key, IsLook, IsLookAt, IsLookOn}
 use Rattle.nb_record.specs.Cells.{tree_cells, IsTreeCell}
 use Rattle.nb_record.specs.Table.{next_of, chain, cells_on_chain, IsCellTable}
 use Rattle.nb_record.specs.Tree.{IsTreeOf}
-use Rattle.nb_record.proofs.Callers.{cells_checked, cell_at, key_found, key_lacking, LeadsOn, leads_on, chain_ends, chain_follows, cells_end, cells_follow, chain_holds, starts_within, found_in_tree, at_its_level}
+use Rattle.nb_record.proofs.Callers.{cells_checked, cell_at, key_found, key_lacking, LeadsOn, leads_on, chain_ends, chain_follows, cells_end, cells_follow, at_its_level}
 use Rattle.nb_walk.specs.Angle.{level_of}
 use Rattle.nb_walk.specs.Items.{chain_page}
 use Rattle.nb_walk.specs.Left.{pages_up_to, pages_to, IsCellItem}

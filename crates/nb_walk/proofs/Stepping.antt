@@ -1,6 +1,6 @@
 -- What a step at a cell, or at the bodies of a leaf, does over a tree.
-use Rattle.std.proofs.Common.{◌≡◌, ℕ, zero, suc, ◌+◌, ◌-◌, ◌*◌, ◌/◌, ◌%◌, ◌^◌, ◌<◌, ◌≤◌, ◌↔◌, Bool, true, false, not, Result, Ok, Err, List, [], ◌∷◌, ◌++◌, length, Option, Some, None, append-nil, sym, ap, ◌∙◌, refl, arith, subst, inl, inr}
-use Rattle.std.specs.Prelude.{◌≢◌, ◌⊎◌, option_map, slice_get, sum_by, All}
+use Rattle.std.proofs.Common.{◌≡◌, ℕ, suc, ◌+◌, ◌-◌, ◌/◌, ◌%◌, ◌<◌, ◌≤◌, ◌↔◌, true, false, not, Result, Ok, Err, List, [], ◌∷◌, ◌++◌, length, Option, Some, None, sym, ap, ◌∙◌, refl, arith, subst, inl, inr}
+use Rattle.std.specs.Prelude.{◌≢◌, option_map, slice_get}
 use Rattle.std.proofs.lemmas.List.Sums.{sum_by-append, sum_by-cons}
 use Rattle.std.proofs.lemmas.List.Elements.{All-push, All-append, All-pop}
 use Rattle.nb_model.specs.declared.body.At.{At}
@@ -14,7 +14,7 @@ use Rattle.nb_record.specs.declared.header.PageError.{PageError}
 use Rattle.nb_record.specs.Pages.{page_count, read_body_page}
 use Rattle.nb_record.specs.Records.{body_record, body_of, IsBodyRecord}
 use Rattle.nb_record.specs.Order.{by_key, sorted_by}
-use Rattle.nb_record.specs.Cells.{in_cell, IsTreeCell}
+use Rattle.nb_record.specs.Cells.{in_cell}
 use Rattle.nb_record.specs.Tree.{IsTreeOf}
 use Rattle.nb_record.proofs.Callers.{bodies_checked, page_within, place_within, length-sorted_by}
 use Rattle.nb_model.proofs.Facts.{length-filter-le}
@@ -25,18 +25,17 @@ use Rattle.nb_walk.specs.declared.sight.Sight.{Sight}
 use Rattle.nb_walk.specs.declared.sight.Sight.TheVariants as sight
 use Rattle.nb_walk.specs.declared.step.Step.{Step}
 use Rattle.nb_walk.specs.declared.step.Step.TheVariants as step
-use Rattle.nb_walk.specs.declared.term.Term.{Term}
 use Rattle.nb_walk.specs.declared.term.Term.TheVariants as term
 use Rattle.nb_walk.specs.Angle.{level_of}
 use Rattle.nb_walk.specs.Terms.{Whole}
-use Rattle.nb_walk.specs.Items.{chain_page, page_for, bodies_under, item_terms, remaining_terms}
-use Rattle.nb_walk.specs.Left.{pages_to, Weights, item_left, items_left, remaining_steps, item_fuel, fuel, IsCellItem, IsItemOf, AreItemsOf}
+use Rattle.nb_walk.specs.Items.{bodies_under, remaining_terms}
+use Rattle.nb_walk.specs.Left.{Weights, item_left, IsCellItem, IsItemOf, AreItemsOf}
 use Rattle.nb_walk.specs.Room.{opened_items}
 use Rattle.nb_walk.specs.Shown.{Shows}
 use Rattle.nb_walk.specs.Sight.{SeesOver}
 use Rattle.nb_walk.specs.Course.{StepsAlong}
 use Rattle.nb_walk.proofs.Ways.{AtCell, among, remaining_last, remaining_one, way_whole, way_opened, way_body}
-use Rattle.nb_walk.proofs.Lefts.{left_among, left_next, left_whole, left_opened, fuel_among, fuel_some, fuel_opened, fuel_next}
+use Rattle.nb_walk.proofs.Lefts.{left_among, left_next, left_whole, left_opened}
 use Rattle.nb_walk.proofs.TreeItems.{opened_are}
 
 -- ---- which page is wanted

@@ -1,11 +1,10 @@
 -- The items in the place of an item of the tree are items of the tree.
-use Rattle.std.proofs.Common.{◌≡◌, ℕ, zero, suc, ◌+◌, ◌-◌, ◌*◌, ◌/◌, ◌%◌, ◌^◌, ◌<◌, ◌≤◌, cond, eqb, not, Bool, true, false, List, [], ◌∷◌, ◌++◌, length, Option, Some, None, sym, ap, ◌∙◌, refl, arith, subst, inl, inr}
-use Rattle.std.specs.Prelude.{◌≢◌, ◌⊎◌, filter, All, Contains, IsPermutation}
-use Rattle.std.proofs.Math.Nat.{pow-suc}
+use Rattle.std.proofs.Common.{◌≡◌, ℕ, zero, suc, ◌+◌, ◌*◌, ◌/◌, ◌%◌, ◌^◌, ◌<◌, ◌≤◌, cond, eqb, Bool, true, List, [], ◌∷◌, ◌++◌, length, sym, ap, ◌∙◌, refl, arith, subst, inl, inr}
+use Rattle.std.specs.Prelude.{◌≢◌, filter, All, Contains}
 use Rattle.std.proofs.lemmas.Bool.{cond-true, cond-false, eq-eqb, ne_eqb, cases_eq}
 use Rattle.std.proofs.lemmas.Nat.{mod_below, pow_pos}
-use Rattle.std.proofs.lemmas.List.Elements.{All-nil, All-cons, All-contains, All-contains_itself, All-append, All-pop}
-use Rattle.std.proofs.lemmas.List.Sorted.{All-permutation, IsPermutation-sym}
+use Rattle.std.proofs.lemmas.List.Elements.{All-nil, All-cons, All-contains, All-contains_itself, All-append}
+use Rattle.std.proofs.lemmas.List.Sorted.{All-permutation}
 use Rattle.nb_model.specs.declared.body.Body.{Body}
 use Rattle.nb_model.specs.declared.params.Params.{Params}
 use Rattle.nb_model.specs.Gravity.{octants}
@@ -18,10 +17,9 @@ use Rattle.nb_record.proofs.Callers.{either, chain_holds, starts_within, found_i
 use Rattle.nb_walk.specs.declared.item.Item.{Item}
 use Rattle.nb_walk.specs.declared.item.Item.TheVariants as item
 use Rattle.nb_walk.specs.Angle.{level_of}
-use Rattle.nb_walk.specs.Items.{chain_page}
 use Rattle.nb_walk.specs.Left.{IsCellItem, IsItemOf, AreItemsOf}
 use Rattle.nb_walk.specs.Room.{kid_items, opened_items}
-use Rattle.nb_walk.proofs.KeyLevels.{level_is, root_level}
+use Rattle.nb_walk.proofs.KeyLevels.{level_is}
 use Rattle.nb_walk.proofs.Rooms.{no_kids}
 
 kept : (p : Cell → Bool) (cell : Cell) (cells : List Cell) → p cell ≡ true → Contains cells cell → Contains (filter p cells) cell

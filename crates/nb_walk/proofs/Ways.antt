@@ -1,23 +1,22 @@
 -- The ways down from an item, as equations of the terms that are still to come.
-use Rattle.std.proofs.Common.{◌≡◌, ℕ, zero, suc, ◌+◌, ◌-◌, ◌*◌, ◌/◌, ◌%◌, ◌^◌, ◌<◌, ◌≤◌, cond, eqb, leb, Bool, true, false, not, List, [], ◌∷◌, ◌++◌, length, map, take, drop, Option, Some, append-nil, append_assoc, sym, ap, ◌∙◌, refl, arith, subst, inl, inr}
-use Rattle.std.specs.Prelude.{◌≢◌, ◌⊎◌, slice_get, filter, All, IsPermutation}
+use Rattle.std.proofs.Common.{◌≡◌, ℕ, zero, suc, ◌+◌, ◌-◌, ◌*◌, ◌/◌, ◌%◌, ◌^◌, ◌<◌, ◌≤◌, cond, eqb, leb, Bool, true, false, not, List, [], ◌∷◌, ◌++◌, length, take, drop, Some, append-nil, append_assoc, sym, ap, ◌∙◌, refl, arith, subst, inl, inr}
+use Rattle.std.specs.Prelude.{◌≢◌, slice_get, filter, IsPermutation}
 use Rattle.std.specs.List.{flat_map}
 use Rattle.std.proofs.lemmas.Bool.{cond-true, cond-false, eq-eqb, ne_eqb, le-leb, lt-leb, cases_eq}
 use Rattle.std.proofs.Math.Seq.{take-add}
 use Rattle.std.proofs.lemmas.List.{map-append, drop-drop}
 use Rattle.std.proofs.lemmas.List.Concat.{flat_map-cons}
-use Rattle.std.proofs.lemmas.List.Sorted.{sum_by-IsPermutation, IsPermutation-sym}
-use Rattle.nb_model.specs.declared.body.At.{At}
+use Rattle.std.proofs.lemmas.List.Sorted.{sum_by-IsPermutation}
 use Rattle.nb_model.specs.declared.body.Body.{Body}
 use Rattle.nb_model.specs.declared.params.Params.{Params}
 use Rattle.nb_model.specs.Octree.{in_octant, total_mass, centre_of_mass}
 use Rattle.nb_model.specs.Gravity.{octants}
 use Rattle.nb_model.specs.Leapfrog.{in_box}
-use Rattle.nb_key.specs.Morton.{key_at, IsKey, IsKeyAt}
+use Rattle.nb_key.specs.Morton.{key_at}
 use Rattle.nb_record.specs.declared.cell.Cell.{Cell}
 use Rattle.nb_record.specs.Order.{by_key, sorted_by, IsSortedByRank}
 use Rattle.nb_record.specs.Cells.{in_cell, IsTreeCell}
-use Rattle.nb_record.proofs.Callers.{permuted, only, length-sorted_by, in_box_sorted, Ordered, all_before, neighbours, ordered_filtered, IsPermutation-filter, octant_of_cell, leaf_by_kids, divided_by_kids, IsDivided, in_root, empty_octant, cell_read, either}
+use Rattle.nb_record.proofs.Callers.{permuted, only, length-sorted_by, in_box_sorted, Ordered, all_before, neighbours, ordered_filtered, IsPermutation-filter, octant_of_cell, leaf_by_kids, divided_by_kids, in_root, empty_octant, cell_read}
 use Rattle.nb_walk.specs.declared.item.Item.{Item}
 use Rattle.nb_walk.specs.declared.item.Item.TheVariants as item
 use Rattle.nb_walk.specs.declared.term.Term.{Term}
@@ -26,7 +25,7 @@ use Rattle.nb_walk.specs.Angle.{level_of}
 use Rattle.nb_walk.specs.Terms.{Whole, body_terms, cell_terms, terms_to_depth}
 use Rattle.nb_walk.specs.Items.{in_order, range_of, bodies_under, item_terms, remaining_terms}
 use Rattle.nb_walk.specs.Room.{kid_items, opened_items}
-use Rattle.nb_walk.proofs.KeyLevels.{child_level, its_level, root_level}
+use Rattle.nb_walk.proofs.KeyLevels.{child_level, root_level}
 
 -- ---- the bodies of a cell, in Morton order
 

@@ -1,11 +1,8 @@
-use Rattle.std.proofs.Common.{◌≡◌, ℕ, ◌+◌, ◌-◌, ◌*◌, ◌/◌, ◌%◌, ◌<◌, ◌≤◌, List, Some, [], ◌∷◌, ◌++◌, length, arith, sym, ap, ◌∙◌, subst, refl}
-use Rattle.std.specs.Prelude.{slice_get}
-use Rattle.nb_record.specs.Order.{by_key, sorted_by}
-use Rattle.nb_walk.specs.declared.item.Item.{Item}
+use Rattle.std.proofs.Common.{◌+◌, ◌-◌, Some, arith, sym, ap, ◌∙◌, subst, refl}
 use Rattle.nb_walk.specs.declared.item.Item.TheVariants as item
 use Rattle.nb_walk.specs.Room.{HasRoom}
 use Rattle.nb_walk.proofs.Rooms.{room_front, room_place, room_small, room_push}
-use Rattle.nb_walk.proofs.Stepping.{HasBody, page_has, page_checks, bodies_of_item, step_body, step_last}
+use Rattle.nb_walk.proofs.Stepping.{page_has, page_checks, bodies_of_item, step_body, step_last}
 use Rattle.nb_walk.proofs.course.bodies_step.Goals as goal
 
 pub push-requires : goal.push-requires

@@ -1,9 +1,5 @@
-use Rattle.std.proofs.Common.{◌≡◌, ℕ, suc, ◌+◌, ◌*◌, ◌<◌, ◌≤◌, true, false, None, List, [], ◌∷◌, ◌++◌, length, arith, sym, ap, ◌∙◌, subst, refl, append-nil}
-use Rattle.std.specs.Prelude.{◌≢◌}
-use Rattle.nb_host.specs.declared.page_name.PageName.{PageName}
-use Rattle.nb_walk.specs.declared.item.Item.{Item}
+use Rattle.std.proofs.Common.{◌≡◌, ◌*◌, ◌<◌, ◌≤◌, None, [], ◌∷◌, ◌++◌, length, arith, sym, ◌∙◌, subst, refl, append-nil}
 use Rattle.nb_walk.specs.declared.item.Item.TheVariants as item
-use Rattle.nb_walk.specs.declared.sight.Sight.TheVariants as sight
 use Rattle.nb_walk.specs.declared.step.Step.TheVariants as step
 use Rattle.nb_walk.specs.declared.term.Term.TheVariants as term
 use Rattle.nb_walk.specs.Angle.{level_of}
@@ -12,7 +8,7 @@ use Rattle.nb_walk.specs.Left.{fuel, item_fuel}
 use Rattle.nb_walk.specs.Room.{HasRoom, opened_items}
 use Rattle.nb_walk.specs.Sight.{SeesOver}
 use Rattle.nb_walk.proofs.Rooms.{room_front, room_place, room_small, room_push, place_free, divided_level}
-use Rattle.nb_walk.proofs.Lefts.{fuel_among, fuel_some, fuel_opened, fuel_next}
+use Rattle.nb_walk.proofs.Lefts.{fuel_among, fuel_some, fuel_opened}
 use Rattle.nb_walk.proofs.Stepping.{unwanted, wanted, cell_item_of, step_whole, step_opened, step_next}
 use Rattle.nb_walk.proofs.course.cell_step.Goals as goal
 

@@ -1,4 +1,4 @@
-use Rattle.std.proofs.Common.{◌≡◌, ◌<◌, None, length, arith, subst, inl, inr}
+use Rattle.std.proofs.Common.{length, arith, subst, inl, inr}
 use Rattle.std.specs.Prelude.{IsSome}
 use Rattle.std.proofs.lemmas.Bool.{cases_lt}
 use Rattle.nb_walk.proofs.course.take_last.Goals as goal

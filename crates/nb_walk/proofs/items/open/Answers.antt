@@ -1,4 +1,4 @@
-use Rattle.std.proofs.Common.{◌≡◌, ◌<◌, arith, length, sym, ap, ◌∙◌, subst}
+use Rattle.std.proofs.Common.{◌<◌, arith, length, sym, subst}
 use Rattle.nb_walk.specs.Angle.{level_of}
 use Rattle.nb_walk.specs.Room.{HasRoom}
 use Rattle.nb_walk.proofs.Rooms.{place_free, room_bodies, divided_level}

@@ -1,4 +1,4 @@
-use Rattle.std.proofs.Common.{◌≡◌, ℕ, ◌+◌, ◌-◌, ◌*◌, ◌≤◌, List, ◌++◌, length, drop}
+use Rattle.std.proofs.Common.{◌≡◌, ◌+◌, ◌-◌, ◌*◌, ◌≤◌, ◌++◌, length, drop}
 use Rattle.nb_model.specs.Gravity.{octants}
 use Rattle.nb_walk.specs.Angle.{level_of}
 use Rattle.nb_walk.specs.Room.{HasRoom, kid_items}

@@ -1,12 +1,6 @@
-use Rattle.std.proofs.Common.{◌≡◌, ℕ, suc, ◌+◌, ◌<◌, ◌≤◌, List, arith, sym, ap, ◌∙◌, subst, inl, inr}
-use Rattle.nb_model.specs.declared.body.Body.{Body}
-use Rattle.nb_model.specs.declared.params.Params.{Params}
-use Rattle.nb_model.specs.Leapfrog.{in_box}
-use Rattle.nb_record.specs.Tree.{IsTreeOf}
+use Rattle.std.proofs.Common.{arith, subst, inl, inr}
 use Rattle.nb_record.proofs.Callers.{cell_within}
 use Rattle.nb_walk.specs.Angle.{level_of}
-use Rattle.nb_walk.specs.Left.{IsCellItem}
-use Rattle.nb_walk.specs.Shown.{Shows}
 use Rattle.nb_walk.proofs.Seeing.{Seen, shown_seen}
 use Rattle.nb_walk.proofs.sight.look_at.Goals as goal
 

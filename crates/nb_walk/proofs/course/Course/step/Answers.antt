@@ -1,12 +1,7 @@
-use Rattle.std.proofs.Common.{◌≡◌, ℕ, ◌<◌, ◌≤◌, ◌/◌, None, List, [], ◌∷◌, ◌++◌, length, append-nil, arith, sym, ap, ◌∙◌, subst, refl}
+use Rattle.std.proofs.Common.{◌≡◌, None, [], ◌∷◌, ◌++◌, length, append-nil, sym, ap, ◌∙◌, subst, refl}
 use Rattle.std.specs.Prelude.{◌≢◌}
-use Rattle.nb_host.specs.declared.page_name.PageName.{PageName}
-use Rattle.nb_walk.specs.declared.item.Item.{Item}
 use Rattle.nb_walk.specs.declared.item.Item.TheVariants as item
-use Rattle.nb_walk.specs.declared.step.Step.TheVariants as step
-use Rattle.nb_walk.specs.Items.{chain_page, page_for}
 use Rattle.nb_walk.specs.Left.{AreItemsOf}
-use Rattle.nb_walk.specs.Shown.{Waits, LooksAt, next_item}
 use Rattle.nb_walk.proofs.Courses.{nothing_next, next_is, waits, no_wait, looks, none_left, finished_empty, nothing_left, same_along}
 use Rattle.nb_walk.proofs.course.Course.step.Goals.{in-Cell, in-Bodies}
 use Rattle.nb_walk.proofs.course.Course.step.Goals as goal

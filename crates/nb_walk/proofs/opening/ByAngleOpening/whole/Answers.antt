@@ -1,5 +1,4 @@
-use Rattle.std.proofs.Common.{sym, ap, ◌∙◌, not, ◌||◌}
-use Rattle.nb_model.specs.Gravity.{is_far}
+use Rattle.std.proofs.Common.{ap, ◌∙◌, not}
 use Rattle.nb_walk.specs.Angle.{by_angle}
 use Rattle.nb_walk.proofs.KeyLevels.{whole_is}
 use Rattle.nb_walk.proofs.opening.ByAngleOpening.whole.Goals as goal
