@@ -1,0 +1,10 @@
+mod KeyLevels
+mod Rooms
+mod Ways
+mod Seeing
+mod Lefts
+mod TreeItems
+mod Pulling
+mod Stepping
+mod Courses
+mod Remaining

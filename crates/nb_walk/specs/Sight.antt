@@ -1,0 +1,46 @@
+-- What the page of a cell's chain says.
+use Rattle.std.specs.Prelude.{◌≡◌, ℕ, suc, ⊤, List, Option}
+use Rattle.nb_model.specs.declared.body.Body.{Body}
+use Rattle.nb_model.specs.declared.params.Params.{Params}
+use Rattle.nb_model.specs.Leapfrog.{in_box}
+use Rattle.nb_record.specs.declared.cell.Cell.{Cell}
+use Rattle.nb_record.specs.declared.tree.Tree.{Tree}
+use Rattle.nb_record.specs.Cells.{IsTreeCell}
+use Rattle.nb_record.specs.Tree.{IsTreeOf}
+use Rattle.nb_walk.specs.declared.sight.Sight.{Sight}
+use Rattle.nb_walk.specs.declared.sight.Sight.TheVariants as sight
+use Rattle.nb_walk.specs.Angle.{level_of}
+use Rattle.nb_walk.specs.Items.{chain_page}
+use Rattle.nb_walk.specs.Left.{pages_to, IsCellItem}
+use Rattle.nb_walk.specs.Shown.{Shows}
+
+-- what holds of a cell that is seen
+abbrev pub IfCell : Sight → (Cell → Type 0) → Type 0
+IfCell (sight.Cell cell) P = P cell
+IfCell (sight.Next next) P = ⊤
+IfCell (sight.Wants name) P = ⊤
+IfCell (sight.Damaged name) P = ⊤
+
+-- what holds of a next page
+abbrev pub IfNext : Sight → (ℕ → Type 0) → Type 0
+IfNext (sight.Cell cell) P = ⊤
+IfNext (sight.Next next) P = P next
+IfNext (sight.Wants name) P = ⊤
+IfNext (sight.Damaged name) P = ⊤
+
+-- Over a tree: the cell that is seen is the tree's, and stands on this page; or the page leads to the next one on the way
+-- to it.
+abbrev pub SeesOver : Params → List Body → Tree → List ℕ → ℕ → ℕ → Sight → Type 0
+SeesOver params bodies tree file key page (sight.Cell cell) =
+    (cell.key ≡ key) × IsTreeCell params (in_box bodies) (level_of key) cell
+    × (pages_to file tree key (chain_page tree.bits key page) ≡ 1)
+SeesOver params bodies tree file key page (sight.Next next) =
+    IsCellItem params bodies tree file key next
+    × (pages_to file tree key (chain_page tree.bits key page) ≡ suc (pages_to file tree key (chain_page tree.bits key next)))
+SeesOver params bodies tree file key page (sight.Wants name) = ⊤
+SeesOver params bodies tree file key page (sight.Damaged name) = ⊥
+
+abbrev pub SeesTree : Tree → (cells bodies : ℕ → Option (List ℕ)) → ℕ → ℕ → Sight → Type 0
+SeesTree tree cells_shown bodies_shown key page seen =
+    (files : ℕ → List ℕ) (params : Params) (bodies : List Body) → IsTreeOf tree files params bodies → Shows cells_shown bodies_shown tree files
+    → IsCellItem params bodies tree (files tree.cells) key page → SeesOver params bodies tree (files tree.cells) key page seen

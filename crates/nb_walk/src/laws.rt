@@ -1,0 +1,38 @@
+//! Laws of walks. Each is a function that does nothing: its contract is the law, for all lists of bodies.
+
+ghost use Rattle.std.specs.Prelude.{◌≡◌, ℕ, List, sum_by, All};
+ghost use Rattle.nb_model.specs.declared.body.At.{At};
+ghost use Rattle.nb_model.specs.declared.body.Body.{Body};
+ghost use Rattle.nb_model.specs.declared.params.Params.{Params};
+ghost use Rattle.nb_model.specs.Gravity.{force_on};
+ghost use Rattle.nb_model.specs.Leapfrog.{in_box};
+ghost use Rattle.nb_model.specs.Valid.{IsInBox};
+ghost use Rattle.nb_record.specs.declared.tree.Tree.{Tree};
+ghost use Rattle.nb_walk.specs.declared.item.Item.{Item};
+ghost use Rattle.nb_walk.specs.Angle.{by_angle};
+ghost use Rattle.nb_walk.specs.Terms.{Whole, interaction_list, pulls, term_mass};
+ghost use Rattle.nb_walk.specs.Items.{in_order, root_items, remaining_terms, remaining_force, remaining_mass};
+ghost use Rattle.nb_walk.specs.Left.{AreItemsOf};
+
+/// A new walk has the whole interaction list of the bodies in the box, in Morton order, still to come. By the
+/// opening angle the list gives what the definition's recursion gives.
+pub fn law_interaction_list()
+    ensures start { (is_whole : Whole) (leaf : ℕ) (bodies : List Body)
+        → remaining_terms is_whole leaf bodies root_items ≡ interaction_list is_whole leaf (in_order bodies) }
+    ensures force { (params : Params) (p : At) (bodies : List Body) → IsInBox p
+        → All (λ b. IsInBox b.at) bodies
+        → pulls params p (interaction_list (λ key mass centre. by_angle params p key centre) params.leaf (in_order bodies))
+        ≡ force_on params p 0 (in_box bodies) }
+{}
+
+/// The terms to come of a tree's items pull as their cells and their bodies do, in whatever order these are
+/// taken, and by any opening they have the mass of the bodies that are left.
+pub fn law_remaining()
+    ensures force { (params : Params) (bodies : List Body) (tree : Tree) (file : List ℕ) (p : At)
+        (items : List Item) → IsInBox p → All (λ b. IsInBox b.at) bodies
+        → AreItemsOf params bodies tree file items
+        → pulls params p (remaining_terms (λ key mass centre. by_angle params p key centre) params.leaf bodies items)
+        ≡ remaining_force params bodies p items }
+    ensures mass { (is_whole : Whole) (leaf : ℕ) (bodies : List Body) (items : List Item)
+        → sum_by term_mass (remaining_terms is_whole leaf bodies items) ≡ remaining_mass bodies items }
+{}

@@ -1,0 +1,28 @@
+//! Walks down a tree in its files, one for each body on which a force is wanted. A walk stops where it needs
+//! a page that isn't shown, and goes on once it is: so it reads nothing and takes no memory.
+//!
+//! A `Course` hands out what acts on its target, term by term: cells that its `Opening` takes as one mass, and
+//! bodies. `sight` looks a cell up on a page of its key's chain, and `items` has what is left, a stack with the
+//! next item on top. The definitions stand in `specs/`: the interaction list in `Terms`, what is left and the
+//! sums over it in `Items` and `Left`, what a lender shows in `Shown`, and a step in `Course`. `laws` ties them
+//! to the definition's force.
+#![tactic(auto)]
+
+mod course;
+mod item;
+mod items;
+mod laws;
+mod opening;
+mod sight;
+mod step;
+mod term;
+
+pub use course::Course;
+pub use item::Item;
+pub use laws::{law_interaction_list, law_remaining};
+pub use opening::{ByAngle, Opening};
+pub use step::Step;
+pub use term::Term;
+
+#[cfg(test)]
+mod tests;
