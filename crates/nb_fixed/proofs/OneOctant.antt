@@ -10,8 +10,8 @@ use Rattle.nb_model.specs.declared.params.Params.{Params}
 use Rattle.nb_model.specs.Vector.{zero_vector, plus, vector_sum}
 use Rattle.nb_model.specs.Octree.{octant_at, in_octant}
 use Rattle.nb_model.specs.Gravity.{octants, force_on}
-use Rattle.nb_model.proofs.Vectors.{same_vector}
-use Rattle.nb_model.proofs.Cells.{octant_forces, force_on-nil, octant_forces_more, octant_forces_all}
+use Rattle.nb_model.proofs.Facts.{same_vector}
+use Rattle.nb_model.proofs.Facts.{octant_forces, force_on-nil, octant_forces_more, octant_forces_all}
 
 filter-all : {X : Type 0} (p : X → Bool) (xs : List X) → list_all p xs ≡ true → filter p xs ≡ xs
 filter-all p [] all = refl

@@ -5,7 +5,7 @@ use Rattle.std.proofs.lemmas.Nat.{mul-le, pow-add, pow_pos, shl_whole, leading_t
 use Rattle.std.proofs.Math.Nat.{pow-le-pow_right}
 use lib.Count.{count_leading_zeros}
 use Rattle.nb_model.specs.Root.{integer_root}
-use Rattle.nb_model.proofs.Roots.{integer_root_is}
+use Rattle.nb_model.proofs.Facts.{integer_root_is}
 
 -- the root over m, where the number is multiplied by the square of m
 root_over : (q m s : ℕ) → 0 < m → s * s ≤ q * (m * m) → q * (m * m) < (s + 1) * (s + 1) → s / m ≡ integer_root q

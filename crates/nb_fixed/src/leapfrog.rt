@@ -5,11 +5,11 @@ ghost use Rattle.nb_model.specs.Limits.{gm_limit, speed_limit, most_bodies};
 ghost use Rattle.nb_model.specs.Vector.{zero_vector};
 ghost use Rattle.nb_model.specs.Gravity.{force_on};
 ghost use Rattle.nb_model.specs.Octree.{total_mass};
-ghost use Rattle.nb_model.specs.Leapfrog.{in_box, escaped_count, changed, accelerate, kick, is_coordinate, is_position, position_of, vector_of, destination, drift_body, drift, step};
+ghost use Rattle.nb_model.specs.Leapfrog.{in_box, escaped_count, changed, accelerate, kick, is_coordinate, is_position, position_of, vector_of, wrapped, drifted, drift_of, drift_body, drift, step};
 ghost use Rattle.nb_model.specs.Valid.{AreInRange, IsInBox, IsBelow, IsValidBody, IsKickedBody, IsValidBodies};
 
 use crate::recursion::{force_on, plus};
-use nb_model::{At, BOX_SIDE, Body, NoMemory, Params, V3, Way};
+use nb_model::{At, BOX_SIDE, Body, Edge, NoMemory, Params, V3, Way};
 use std::alloc::{AllocError, Global};
 
 fn in_box(alloc: Global, bodies: &[Body]) -> Result<Vec<Body>, NoMemory>
@@ -119,45 +119,72 @@ fn vector_of(at: &At) -> V3
     }
 }
 
-/// Where its velocity brings a body in the box.
-fn destination(way: Way, body: &Body) -> V3
-    requires at { IsInBox body.now.at }
-    requires speed { IsBelow (2 * speed_limit) body.now.v }
-    ensures { result ≡ destination way body.now }
+/// The coordinates that these have in a box that wraps: each modulo the side.
+fn wrapped(r: &V3) -> V3
+    ensures value { result ≡ wrapped r.now }
+    ensures position { is_position result ≡ true }
 {
-    changed(way, vector_of(&body.at), body.v)
+    V3 {
+        x: r.x.rem_euclid(BOX_SIDE as i64),
+        y: r.y.rem_euclid(BOX_SIDE as i64),
+        z: r.z.rem_euclid(BOX_SIDE as i64),
+    }
 }
 
-/// A body after its drift: moved, or out where it would leave the box.
-fn drift_body(way: Way, body: Body) -> Body
+/// Where a drift by this displacement brings a position, if anywhere.
+fn drifted(edge: Edge, at: &At, by: V3) -> Option<At>
+    requires at { IsInBox at.now }
+    requires by { IsBelow (2 * speed_limit) by }
+    ensures { result ≡ drifted edge at.now by }
+{
+    let there = plus(vector_of(at), by);
+    match edge {
+        Edge::Open => is_position(&there).then(|| position_of(&there)),
+        Edge::Wrap => by.is_below(BOX_SIDE).then(|| position_of(&wrapped(&there))),
+    }
+}
+
+/// By how much a tick's drift moves a body: by its velocity forward, and by minus its velocity back.
+fn drift_of(way: Way, v: V3) -> V3
+    requires { IsBelow (2 * speed_limit) v }
+    ensures value { result ≡ drift_of way v }
+    ensures bound { IsBelow (2 * speed_limit) result }
+{
+    match way {
+        Way::Forward => v,
+        Way::Back => V3 {
+            x: -v.x,
+            y: -v.y,
+            z: -v.z,
+        },
+    }
+}
+
+/// A body after its drift: moved, or out where the drift leads nowhere in the box.
+fn drift_body(params: &Params, way: Way, body: Body) -> Body
     requires { IsKickedBody body }
-    ensures { result ≡ drift_body way body }
+    ensures { result ≡ drift_body params.now way body }
 {
     if body.out {
         return body;
     }
-    let there = destination(way, &body);
-    if is_position(&there) {
-        Body {
-            at: position_of(&there),
-            ..body
-        }
-    } else {
-        Body { out: true, ..body }
+    match drifted(params.edge, &body.at, drift_of(way, body.v)) {
+        Some(at) => Body { at, ..body },
+        None => Body { out: true, ..body },
     }
 }
 
-fn drift(way: Way, bodies: &mut [Body])
+fn drift(params: &Params, way: Way, bodies: &mut [Body])
     requires { All IsKickedBody bodies.old }
-    ensures { bodies.new ≡ drift way bodies.old }
+    ensures { bodies.new ≡ drift params.now way bodies.old }
 {
     for body in bodies.iter_mut() {
-        *body = drift_body(way, *body);
+        *body = drift_body(params, way, *body);
     }
 }
 
 /// One tick, forward or back: the list becomes the definition's, and the answer is how many of its bodies
-/// have left the box. Where memory is wanting the list is as it was.
+/// are out. Where memory is wanting the list is as it was.
 pub fn plain_tick(
     alloc: Global,
     params: &Params,
@@ -172,7 +199,7 @@ pub fn plain_tick(
     ensures refused { OnErr result (bodies.new.items ≡ bodies.old.items) }
 {
     let mut drifted = kick(alloc, params, way, bodies)?;
-    drift(way, &mut drifted);
+    drift(params, way, &mut drifted);
     let kicked = kick(alloc, params, way, &drifted)?;
     let escaped = kicked.iter().filter(|body| body.out).count() as u64;
     *bodies = kicked;

@@ -1,12 +1,12 @@
 //! The pull of a mass: a softened monopole.
 
-ghost use Rattle.std.specs.Prelude.{◌≡◌, ◌+◌, ◌*◌, ◌/◌, ◌%◌, ◌^◌, ◌<◌, ◌≤◌, pos, ◌-ℤ◌, unsigned_abs};
+ghost use Rattle.std.specs.Prelude.{◌≡◌, ◌+◌, ◌*◌, ◌/◌, ◌%◌, ◌^◌, ◌<◌, ◌≤◌, unsigned_abs};
 ghost use Rattle.nb_model.specs.Limits.{gm_limit};
 ghost use Rattle.nb_model.specs.Root.{integer_root};
 ghost use Rattle.nb_model.specs.Gravity.{pull, pull_along};
 ghost use Rattle.nb_model.specs.Valid.{AreInRange, IsInBox};
 
-use crate::distance::{distance_along, distance_squared};
+use crate::distance::{nearest_displacement, norm_squared};
 use crate::square_root::root_of_word;
 use nb_model::{At, Params, V3};
 
@@ -75,16 +75,17 @@ fn size_along(scale: &Scale, distance: u64) -> u64
 }
 
 /// The pull along an axis, in box units a tick.
-fn along(scale: &Scale, from: u64, to: u64) -> i64
-    requires { unsigned_abs (pos to -ℤ pos from) * unsigned_abs (pos to -ℤ pos from) ≤ scale.now.square }
+fn along(scale: &Scale, difference: i64) -> i64
+    requires { unsigned_abs difference * unsigned_abs difference ≤ scale.now.square }
     ensures { result ≡ pull_along (scale.now.whole * scale.now.square + scale.now.rest) scale.now.square
-        (pos to -ℤ pos from) }
+        difference }
 {
-    let size = size_along(scale, distance_along(from, to)) as i64;
-    if from <= to { size } else { -size }
+    let size = size_along(scale, difference.unsigned_abs()) as i64;
+    if difference < 0 { -size } else { size }
 }
 
-/// The half kick that a mass at `centre` gives to a body at `from`, in box units a tick.
+/// The half kick that a mass at `centre`, or in a box that wraps its nearest image, gives to a body at `from`,
+/// in box units a tick.
 pub fn pull(params: &Params, from: &At, mass: u64, centre: &At) -> V3
     requires params { AreInRange params.now }
     requires from { IsInBox from.now }
@@ -94,7 +95,8 @@ pub fn pull(params: &Params, from: &At, mass: u64, centre: &At) -> V3
 {
     let gm = params.grav * mass;
     let soft = u128::from(params.soft);
-    let square = distance_squared(from, centre) + soft * soft;
+    let displacement = nearest_displacement(params.edge, from, centre);
+    let square = norm_squared(&displacement) + soft * soft;
     if square > u128::from(gm) {
         // Each distance is at most the root, so that each quotient is below 1.
         return V3 { x: 0, y: 0, z: 0 };
@@ -109,8 +111,8 @@ pub fn pull(params: &Params, from: &At, mass: u64, centre: &At) -> V3
         rest: gm % square,
     };
     V3 {
-        x: along(&scale, from.x, centre.x),
-        y: along(&scale, from.y, centre.y),
-        z: along(&scale, from.z, centre.z),
+        x: along(&scale, displacement.x),
+        y: along(&scale, displacement.y),
+        z: along(&scale, displacement.z),
     }
 }

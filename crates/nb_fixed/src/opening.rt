@@ -6,7 +6,7 @@ ghost use Rattle.nb_model.specs.Octree.{cell_side};
 ghost use Rattle.nb_model.specs.Gravity.{is_far};
 ghost use Rattle.nb_model.specs.Valid.{AreInRange, IsInBox};
 
-use crate::distance::distance_squared;
+use crate::distance::{nearest_displacement, norm_squared};
 use nb_model::{At, BOX_BITS, Params};
 
 /// The side of a cell at this level, in box units.
@@ -33,6 +33,7 @@ pub fn opens(params: &Params, from: &At, level: u32, centre: &At, inside: bool) 
     let side = side_at(level);
     let theta_num = u128::from(params.theta_num);
     let theta_den = u128::from(params.theta_den);
-    let far = distance_squared(from, centre) * (theta_num * theta_num);
+    let displacement = nearest_displacement(params.edge, from, centre);
+    let far = norm_squared(&displacement) * (theta_num * theta_num);
     far <= side * side * (theta_den * theta_den)
 }

@@ -2,14 +2,14 @@
 
 ghost use Rattle.std.specs.Prelude.{◌≡◌, ℕ, ◌+◌, ◌<◌, ◌≤◌, ◌^◌, true, length, map, All};
 ghost use Rattle.std.specs.List.Sorted.{IsStrictlyIncreasing};
-ghost use Rattle.nb_model.specs.Limits.{speed_limit};
 ghost use Rattle.nb_model.specs.Octree.{total_mass};
-ghost use Rattle.nb_model.specs.Valid.{AreInRange, IsInBox, IsBelow, IsValidBody, IsValidBodies};
+ghost use Rattle.nb_model.specs.Valid.{AreInRange, IsValidBody, IsValidBodies};
 
 use crate::cell::mass_and_centre;
+use crate::distance::nearest_displacement;
 use crate::leapfrog::kick;
 use crate::{opens, plain_tick, root, trunc_div};
-use nb_model::{At, Body, Params, V3, Way};
+use nb_model::{At, Body, Edge, Params, V3, Way};
 use std::alloc::Global;
 use std::process::Abort;
 use std::test::Fail;
@@ -18,7 +18,7 @@ use std::test::Fail;
 const HALF: u64 = 549755813888;
 
 /// The parameters of the tests, with these of them changed.
-fn params(grav: u64, theta_num: u64, theta_den: u64, leaf: u64) -> Params
+fn params(edge: Edge, grav: u64, theta_num: u64, theta_den: u64, leaf: u64) -> Params
     requires grav { grav < 2 ^ 60 }
     requires theta_num { theta_num ≤ 32768 }
     requires some_theta_den { 1 ≤ theta_den }
@@ -34,6 +34,7 @@ fn params(grav: u64, theta_num: u64, theta_den: u64, leaf: u64) -> Params
         soft: 1,
         leaf,
         every: 100,
+        edge,
     }
 }
 
@@ -59,29 +60,11 @@ fn on_line(x: u64) -> At
     }
 }
 
-fn is_below_speed_limit(v: &V3) -> bool
-    ensures { result ≡ true → IsBelow speed_limit v.now }
-{
-    v.x.unsigned_abs() < 1 << 61 && v.y.unsigned_abs() < 1 << 61 && v.z.unsigned_abs() < 1 << 61
-}
-
-fn is_in_box(at: &At) -> bool
-    ensures { result ≡ true → IsInBox at.now }
-{
-    at.x < 1 << 40 && at.y < 1 << 40 && at.z < 1 << 40
-}
-
-fn is_valid_body(body: &Body) -> bool
-    ensures { result ≡ true → IsValidBody body.now }
-{
-    1 <= body.mass && is_in_box(&body.at) && is_below_speed_limit(&body.v)
-}
-
 fn are_valid_bodies(bodies: &[Body]) -> bool
     ensures { result ≡ true → All IsValidBody bodies.now }
 {
     for body in bodies {
-        if !is_valid_body(body) {
+        if !body.is_valid() {
             return false;
         }
     }
@@ -137,7 +120,12 @@ fn kicks(rt: &impl Abort, alloc: Global, params: &Params, bodies: &[Body]) -> Re
 fn pulls_round_toward_zero(rt: HostRuntime) -> Result<(), Fail> {
     let alloc = rt.alloc();
     let bodies = [body(1, 1, on_line(0), 0), body(2, 1000, on_line(1000), 0)];
-    let along = kicks(&rt, alloc, &params(1_000_000_000, 1, 2, 8), &bodies)?;
+    let along = kicks(
+        &rt,
+        alloc,
+        &params(Edge::Open, 1_000_000_000, 1, 2, 8),
+        &bodies,
+    )?;
     assert_eq!(rt; along.as_slice(), [999_999, -999].as_slice());
     Ok(())
 }
@@ -170,9 +158,9 @@ fn cells_are_taken_whole_or_opened(rt: HostRuntime) -> Result<(), Fail> {
     ];
     let grav = 1_000_200_000_000_000;
     let cases = [
-        (params(grav, 1, 1, 1), 1819, "taken at level 20"),
-        (params(grav, 0, 1, 1), 1818, "never taken"),
-        (params(grav, 1, 1, 8), 1818, "one leaf"),
+        (params(Edge::Open, grav, 1, 1, 1), 1819, "taken at level 20"),
+        (params(Edge::Open, grav, 0, 1, 1), 1818, "never taken"),
+        (params(Edge::Open, grav, 1, 1, 8), 1818, "one leaf"),
     ];
     for (params, want, why) in cases {
         let along = kicks(&rt, alloc, &params, &bodies)?;
@@ -184,7 +172,7 @@ fn cells_are_taken_whole_or_opened(rt: HostRuntime) -> Result<(), Fail> {
 
 #[test]
 fn ticks_of_two_bodies(rt: HostRuntime) -> Result<(), Fail> {
-    let params = params(1_000_000_000, 1, 2, 8);
+    let params = params(Edge::Open, 1_000_000_000, 1, 2, 8);
     let apart = [body(1, 1, on_line(0), 0), body(2, 1000, on_line(1000), 0)];
     let crossed = [
         body(1, 1, on_line(999_999), 999_998),
@@ -211,7 +199,7 @@ fn ticks_of_two_bodies(rt: HostRuntime) -> Result<(), Fail> {
 
 #[test]
 fn two_bodies_in_one_deepest_cell(rt: HostRuntime) -> Result<(), Fail> {
-    let params = params(1_000_000_000, 1, 2, 1);
+    let params = params(Edge::Open, 1_000_000_000, 1, 2, 1);
     let together = [body(1, 5, on_line(0), 0), body(2, 5, on_line(0), 0)];
     for way in [Way::Forward, Way::Back] {
         let mut bodies = together.to_vec(rt.alloc())?;
@@ -224,7 +212,7 @@ fn two_bodies_in_one_deepest_cell(rt: HostRuntime) -> Result<(), Fail> {
 
 #[test]
 fn a_body_leaves_the_box(rt: HostRuntime) -> Result<(), Fail> {
-    let params = params(1_000_000_000, 1, 2, 8);
+    let params = params(Edge::Open, 1_000_000_000, 1, 2, 8);
     for (x, way) in [(2 * HALF - 1, Way::Forward), (0, Way::Back)] {
         let before = body(7, 3, At { x, y: 0, z: 0 }, 1);
         let mut bodies = [before].to_vec(rt.alloc())?;
@@ -243,6 +231,105 @@ fn a_body_leaves_the_box(rt: HostRuntime) -> Result<(), Fail> {
     Ok(())
 }
 
+/// The box wraps, and a tick and its opposite are tried.
+fn ticks_there_and_back(
+    rt: &impl Abort,
+    alloc: Global,
+    before: &[Body],
+    after: &[Body],
+) -> Result<(), Fail> {
+    let params = params(Edge::Wrap, 1_000_000_000, 1, 2, 8);
+    let mut bodies = before.to_vec(alloc)?;
+    assert!(rt; are_valid(&params, &bodies));
+    assert_eq!(rt; plain_tick(alloc, &params, &mut bodies, Way::Forward)?, 0);
+    assert_eq!(rt; bodies.as_slice(), after);
+    assert_eq!(rt; plain_tick(alloc, &params, &mut bodies, Way::Back)?, 0);
+    assert_eq!(rt; bodies.as_slice(), before);
+    Ok(())
+}
+
+#[test]
+fn ticks_across_the_border(rt: HostRuntime) -> Result<(), Fail> {
+    let alloc = rt.alloc();
+    let corner = At { x: 0, y: 0, z: 0 };
+    let last = At {
+        x: 2 * HALF - 1,
+        ..corner
+    };
+    ticks_there_and_back(&rt, alloc, &[body(7, 3, last, 1)], &[body(7, 3, corner, 1)])?;
+    let five = At { x: 5, y: 5, z: 5 };
+    let fast = 1_099_511_627_775;
+    ticks_there_and_back(
+        &rt,
+        alloc,
+        &[body(7, 3, five, fast)],
+        &[body(7, 3, At { x: 4, ..five }, fast)],
+    )
+}
+
+#[test]
+fn two_bodies_pull_across_the_border(rt: HostRuntime) -> Result<(), Fail> {
+    let alloc = rt.alloc();
+    let at = |x: u64| At {
+        x,
+        y: HALF,
+        z: HALF,
+    };
+    let before = [
+        body(1, 1, at(0), 0),
+        body(2, 1000, at(1_099_511_626_776), 0),
+    ];
+    let after = [
+        body(1, 1, at(1_099_510_627_777), -999_998),
+        body(2, 1000, at(1_099_511_627_775), 999),
+    ];
+    let params = params(Edge::Wrap, 1_000_000_000, 1, 2, 8);
+    let along = kicks(&rt, alloc, &params, &before)?;
+    assert_eq!(rt; along.as_slice(), [-999_999, 999].as_slice());
+    ticks_there_and_back(&rt, alloc, &before, &after)
+}
+
+#[test]
+fn a_body_is_too_fast_for_a_box_that_wraps(rt: HostRuntime) -> Result<(), Fail> {
+    let params = params(Edge::Wrap, 1_000_000_000, 1, 2, 8);
+    for way in [Way::Forward, Way::Back] {
+        let before = body(7, 3, At { x: 5, y: 5, z: 5 }, 1_099_511_627_776);
+        let mut bodies = [before].to_vec(rt.alloc())?;
+        assert!(rt; are_valid(&params, &bodies));
+        assert_eq!(rt; plain_tick(rt.alloc(), &params, &mut bodies, way)?, 1);
+        assert_eq!(rt;
+            bodies.as_slice(),
+            [Body {
+                out: true,
+                ..before
+            }]
+            .as_slice()
+        );
+    }
+    Ok(())
+}
+
+#[test]
+fn half_a_box_is_minus_half_both_ways(rt: HostRuntime) {
+    let from = At {
+        x: 0,
+        y: HALF,
+        z: 0,
+    };
+    let to = At {
+        x: HALF,
+        y: 0,
+        z: HALF + 1,
+    };
+    let half = HALF as i64;
+    for (edge, x, y, z) in [
+        (Edge::Open, half, -half, half + 1),
+        (Edge::Wrap, -half, -half, 1 - half),
+    ] {
+        assert_eq!(rt; nearest_displacement(edge, &from, &to), V3 { x, y, z });
+    }
+}
+
 #[test]
 fn a_centre_is_rounded_down(rt: HostRuntime) {
     let bodies = [
@@ -258,8 +345,8 @@ fn a_centre_is_rounded_down(rt: HostRuntime) {
 #[test]
 fn cells_that_open(rt: HostRuntime) {
     let from = At { x: 0, y: 0, z: 0 };
-    let wide = params(1, 32768, 1, 8);
-    let unit = params(1, 1, 1, 8);
+    let wide = params(Edge::Open, 1, 32768, 1, 8);
+    let unit = params(Edge::Open, 1, 1, 1, 8);
     let far = At {
         x: 1 << 30,
         y: 0,
@@ -298,6 +385,20 @@ fn cells_that_open(rt: HostRuntime) {
     assert!(rt;
         opens(&wide, &from, 21, &from, false),
         "its centre on the body"
+    );
+    let across = At {
+        x: 1_099_510_579_200,
+        y: 0,
+        z: 0,
+    };
+    let wrap = params(Edge::Wrap, 1, 1, 1, 8);
+    assert!(rt;
+        opens(&wrap, &from, 20, &across, false),
+        "near across the border"
+    );
+    assert!(rt;
+        !opens(&unit, &from, 20, &across, false),
+        "far in an open box"
     );
 }
 

@@ -13,6 +13,7 @@ use Rattle.nb_model.specs.Vector.{zero_vector, vector_sum}
 use Rattle.nb_model.specs.Octree.{octant_at, in_octant, total_mass, centre_of_mass}
 use Rattle.nb_model.specs.Gravity.{pull, is_far, cell_holds, is_accepted, direct_sum, octants, cell_force, force_to_depth, force_on}
 use Rattle.nb_model.specs.Leapfrog.{in_box, half_kick, accelerate}
+use Rattle.nb_model.proofs.Vectors.{same_position}
 use Rattle.nb_model.proofs.Sums.{map_agree, sum_by-map, filter-map}
 
 -- each velocity changed by an amount of its own, as a kick does
@@ -31,10 +32,6 @@ in_octant-accelerated way change level bodies octant =
 
 total_mass-accelerated : (way : Way) (change : Body → V3) (bodies : List Body) → total_mass (accelerated way change bodies) ≡ total_mass bodies
 total_mass-accelerated way change bodies = sum_by-map (λ b. b.mass) (λ b. accelerate way (change b) b) bodies
-
-same_position : (p q : At) → p.x ≡ q.x → p.y ≡ q.y → p.z ≡ q.z → p ≡ q
-same_position p q x y z =
-    ap (λ k. record p { x = k }) x ∙ ap (λ k. record q { y = k; z = p.z }) y ∙ ap (λ k. record q { z = k }) z
 
 centre_of_mass-accelerated : (way : Way) (change : Body → V3) (bodies : List Body) → centre_of_mass (accelerated way change bodies) ≡ centre_of_mass bodies
 centre_of_mass-accelerated way change bodies =

@@ -1,11 +1,15 @@
-pub mod Roots
-pub mod Quotients
+pub mod Facts
+mod Roots
+mod Quotients
 pub mod Vectors
-pub mod Pulls
+mod Wrapping
+mod Pulls
 pub mod Sums
 pub mod Octants
 pub mod Cells
-pub mod Forces
+mod Forces
+mod Drifts
 pub mod Steps
 pub mod Accelerated
-pub mod Undone
+mod Undone
+mod OpenBox

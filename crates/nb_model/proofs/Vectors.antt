@@ -4,6 +4,7 @@ use Rattle.std.specs.Prelude.{unsigned_abs, fold, sum_by}
 use Rattle.std.proofs.lemmas.Int.{ints}
 use Rattle.std.proofs.lemmas.List.{map_more}
 use Rattle.std.proofs.lemmas.List.Sums.{fold_push, sum_by-cons}
+use Rattle.nb_model.specs.declared.body.At.{At}
 use Rattle.nb_model.specs.declared.body.V3.{V3}
 use Rattle.nb_model.specs.Valid.{IsBelow}
 use Rattle.nb_model.specs.Vector.{zero_vector, plus, vector_sum}
@@ -11,6 +12,10 @@ use Rattle.nb_model.specs.Vector.{zero_vector, plus, vector_sum}
 pub same_vector : (v w : V3) → v.x ≡ w.x → v.y ≡ w.y → v.z ≡ w.z → v ≡ w
 same_vector v w x y z =
     ap (λ k. record v { x = k }) x ∙ ap (λ k. record w { y = k; z = v.z }) y ∙ ap (λ k. record w { z = k }) z
+
+pub same_position : (p q : At) → p.x ≡ q.x → p.y ≡ q.y → p.z ≡ q.z → p ≡ q
+same_position p q x y z =
+    ap (λ k. record p { x = k }) x ∙ ap (λ k. record q { y = k; z = p.z }) y ∙ ap (λ k. record q { z = k }) z
 
 -- each axis is, in size, at most this
 pub record IsAtMost (most : ℕ) (v : V3) : Type 0 where

@@ -6,23 +6,23 @@ use Rattle.nb_model.specs.declared.body.V3.{V3}
 use Rattle.nb_model.specs.declared.body.Body.{Body}
 use Rattle.nb_model.specs.declared.params.Params.{Params}
 use Rattle.nb_model.specs.Limits.{deepest_level}
-use Rattle.nb_model.specs.Vector.{zero_vector, vector_sum, displacement, norm_squared}
+use Rattle.nb_model.specs.Vector.{zero_vector, vector_sum, nearest_displacement, norm_squared}
 use Rattle.nb_model.specs.Root.{integer_root}
 use Rattle.nb_model.specs.Octree.{cell_side, in_octant, is_same_cell, total_mass, centre_of_mass}
 
 -- the squared distance with Plummer's softening
 abbrev pub softened_square : Params → At → At → ℕ
-softened_square params p c = norm_squared (displacement p c) + params.soft * params.soft
+softened_square params p c = norm_squared (nearest_displacement params.edge p c) + params.soft * params.soft
 
 -- One axis of a half kick: gm * d / (q * root of q), rounded toward zero, where gm is the constant of gravity
 -- times the mass that pulls, and q the softened square.
 abbrev pub pull_along : ℕ → ℕ → ℤ → ℤ
 pull_along gm q d = int_div (pos gm *ℤ d) (pos (q * integer_root q))
 
--- the half kick that a mass at c gives to a body at p: a softened monopole
+-- the half kick that a mass at c, or in a box that wraps its nearest image, gives to a body at p: a softened monopole
 abbrev pub pull : Params → At → ℕ → At → V3
 pull params p mass c =
-    let d = displacement p c in
+    let d = nearest_displacement params.edge p c in
     let q = softened_square params p c in
     record {
       x = pull_along (params.grav * mass) q d.x;
@@ -31,11 +31,11 @@ pull params p mass c =
     }
 
 -- The inequality of the opening criterion, side / distance < theta, in whole numbers: the distance is from p to the
--- centre c of a cell at this level, without softening.
+-- centre c of a cell at this level, or to its nearest image, without softening.
 abbrev pub is_far : Params → At → ℕ → At → Bool
 is_far params p level c =
     nat_lt (cell_side level * cell_side level * (params.theta_den * params.theta_den))
-    (norm_squared (displacement p c) * (params.theta_num * params.theta_num))
+    (norm_squared (nearest_displacement params.edge p c) * (params.theta_num * params.theta_num))
 
 -- whether the cell of these bodies, at this level, holds the position p: all of them lie in one cell, so the first tells
 abbrev pub cell_holds : ℕ → At → List Body → Bool

@@ -1,26 +1,29 @@
 -- One tick, forward in time or back: a half kick, a whole drift, a half kick. Forward, velocities gain their half kicks and
 -- positions gain their velocities. Back, they lose them, in the reverse order, which is again a kick, a drift and a kick.
-use Rattle.std.specs.Prelude.{ℕ, Bool, true, ◌&&◌, not, if◌then◌else◌, List, [], ◌∷◌, filter, count_by, map, pos, ◌+ℤ◌, ◌-ℤ◌, ℤ, int_le, int_lt, unsigned_abs}
+use Rattle.std.specs.Prelude.{ℕ, Bool, true, ◌&&◌, not, if◌then◌else◌, Option, None, Some, List, [], ◌∷◌, filter, count_by, map, pos, ◌+ℤ◌, ◌-ℤ◌, ℤ, int_le, int_lt, unsigned_abs}
+use Rattle.std.specs.Int.{int_rem_euclid}
 use Rattle.nb_model.specs.declared.body.At.{At}
 use Rattle.nb_model.specs.declared.body.V3.{V3}
 use Rattle.nb_model.specs.declared.body.Body.{Body}
+use Rattle.nb_model.specs.declared.edge.Edge.{Edge}
+use Rattle.nb_model.specs.declared.edge.Edge.TheVariants.{Open, Wrap}
 use Rattle.nb_model.specs.declared.params.Params.{Params}
 use Rattle.nb_model.specs.declared.way.Way.{Way}
 use Rattle.nb_model.specs.declared.way.Way.TheVariants.{Forward, Back}
 use Rattle.nb_model.specs.Limits.{box_side}
-use Rattle.nb_model.specs.Vector.{zero_vector}
+use Rattle.nb_model.specs.Vector.{zero_vector, plus, negated, is_below}
 use Rattle.nb_model.specs.Gravity.{force_on}
 
--- the bodies that haven't left the box, in their order
+-- the bodies that aren't out, in their order
 abbrev pub in_box : List Body → List Body
 in_box bodies = filter (λ b. not b.out) bodies
 
--- how many bodies have left the box
+-- how many bodies are out
 abbrev pub escaped_count : List Body → ℕ
 escaped_count bodies = count_by (λ b. b.out) bodies
 
 -- The half kick of a body of the list: the force of the bodies in the box on it, from the root cell down. A body that
--- has left the box gets none.
+-- is out gets none.
 abbrev pub half_kick : Params → List Body → Body → V3
 half_kick params bodies b = if b.out then zero_vector else force_on params b.at 0 (in_box bodies)
 
@@ -54,23 +57,40 @@ vector_of p = record { x = pos p.x; y = pos p.y; z = pos p.z }
 abbrev pub position_of : V3 → At
 position_of r = record { x = unsigned_abs r.x; y = unsigned_abs r.y; z = unsigned_abs r.z }
 
--- where its velocity brings a body
-abbrev pub destination : Way → Body → V3
-destination way b = changed way (vector_of b.at) b.v
+-- the position that these coordinates have in a box that wraps: each modulo the side, and never negative
+abbrev pub wrapped : V3 → V3
+wrapped r = record {
+  x = int_rem_euclid r.x (pos box_side);
+  y = int_rem_euclid r.y (pos box_side);
+  z = int_rem_euclid r.z (pos box_side);
+}
 
--- A body in the box moves by its velocity. Where that leads out of the box it has left: it keeps its position, and its
--- velocity.
-abbrev pub drift_body : Way → Body → Body
-drift_body way b =
-    if b.out then b
-    else (if is_position (destination way b) then record b { at = position_of (destination way b) } else record b { out = true })
+-- Where a drift by u brings a position: out of an open box nowhere, and in a box that wraps nowhere where u is as long as
+-- the side, or longer, on some axis.
+abbrev pub drifted : Edge → At → V3 → Option At
+drifted Open p u = let r = plus (vector_of p) u in if is_position r then Some (position_of r) else None
+drifted Wrap p u = if is_below box_side u then Some (position_of (wrapped (plus (vector_of p) u))) else None
 
-abbrev pub drift : Way → List Body → List Body
-drift way bodies = map (drift_body way) bodies
+-- by how much a tick's drift moves a body: by its velocity forward, and by minus its velocity back
+abbrev pub drift_of : Way → V3 → V3
+drift_of Forward v = v
+drift_of Back v = negated v
+
+abbrev pub moved_to : Body → Option At → Body
+moved_to b (Some p) = record b { at = p }
+moved_to b None = record b { out = true }
+
+-- A body in the box moves by its velocity. Where that leads nowhere in the box it becomes out: it keeps its position, and
+-- its velocity.
+abbrev pub drift_body : Params → Way → Body → Body
+drift_body params way b = if b.out then b else moved_to b (drifted params.edge b.at (drift_of way b.v))
+
+abbrev pub drift : Params → Way → List Body → List Body
+drift params way bodies = map (drift_body params way) bodies
 
 -- one tick
 abbrev pub step : Params → Way → List Body → List Body
-step params way bodies = kick params way (drift way (kick params way bodies))
+step params way bodies = kick params way (drift params way (kick params way bodies))
 
 -- one tick forward: velocities gain their half kicks, positions their velocities, and velocities their half kicks
 abbrev pub forward_step : Params → List Body → List Body

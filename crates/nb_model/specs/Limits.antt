@@ -5,6 +5,10 @@ use Rattle.std.specs.Prelude.{ℕ, ◌^◌}
 abbrev pub box_side : ℕ
 box_side = 2 ^ 40
 
+-- half of that
+abbrev pub half_box : ℕ
+half_box = 2 ^ 39
+
 -- The root cell, at level 0, is the box. A cell's eight octants are one level deeper, and a cell at this level is
 -- never divided: its side is 2 ^ 19 box units. The sides come from that of the box, so `cell_side 0` is `box_side`.
 abbrev pub deepest_level : ℕ

@@ -32,7 +32,7 @@ pub record IsBelow (limit : ℕ) (v : V3) : Type 0 where
   pub y : unsigned_abs v.y < limit
   pub z : unsigned_abs v.z < limit
 
--- A body that has left the box may have any velocity.
+-- A body that is out may have any velocity.
 pub record IsValidBody (b : Body) : Type 0 where
   pub some_mass : 1 ≤ b.mass
   pub mass : b.mass < mass_limit
@@ -45,6 +45,14 @@ pub record IsKickedBody (b : Body) : Type 0 where
   pub mass : b.mass < mass_limit
   pub at : IsInBox b.at
   pub speed : b.out ≡ false → IsBelow (2 * speed_limit) b.v
+
+-- What a drift leaves of such a body: one that isn't out has a speed below the side of the box. A half kick makes it
+-- valid again.
+pub record IsDriftedBody (b : Body) : Type 0 where
+  pub some_mass : 1 ≤ b.mass
+  pub mass : b.mass < mass_limit
+  pub at : IsInBox b.at
+  pub speed : b.out ≡ false → IsBelow box_side b.v
 
 pub record IsValidBodies (params : Params) (bodies : List Body) : Type 0 where
   pub each : All IsValidBody bodies

@@ -6,6 +6,7 @@
 #![tactic(auto)]
 
 mod body;
+mod edge;
 mod laws;
 mod limits;
 mod memory;
@@ -13,9 +14,14 @@ mod params;
 mod way;
 
 pub use body::{At, Body, V3};
-pub use laws::{law_back, law_force_on, law_integer_root, law_step};
+pub use edge::Edge;
+pub use laws::{
+    law_back, law_body, law_force_on, law_half_kick, law_integer_root, law_limits, law_open_box,
+    law_step, law_wrapped_box,
+};
 pub use limits::{
-    BOX_BITS, BOX_SIDE, DEEPEST_LEVEL, GM_LIMIT, KICK_LIMIT, MOST_BODIES, MOST_TICKS, SPEED_LIMIT,
+    BOX_BITS, BOX_SIDE, DEEPEST_LEVEL, GM_LIMIT, HALF_BOX, KICK_LIMIT, MOST_BODIES, MOST_TICKS,
+    SPEED_LIMIT,
 };
 pub use memory::NoMemory;
 pub use params::Params;

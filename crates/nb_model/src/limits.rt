@@ -6,6 +6,9 @@ pub const BOX_BITS: u32 = 40;
 /// The side of the box, in box units: each coordinate of a position is below it.
 pub const BOX_SIDE: u64 = 1 << BOX_BITS;
 
+/// Half of that side, in box units.
+pub const HALF_BOX: u64 = BOX_SIDE / 2;
+
 /// The level of the smallest cells, which are never divided. The root cell, at level 0, is the box.
 pub const DEEPEST_LEVEL: u32 = 21;
 

@@ -1,5 +1,7 @@
 //! The parameters of a run.
 
+use crate::edge::Edge;
+
 /// The parameters of a run.
 #[derive(Clone, Copy, PartialEq, Eq, Debug)]
 pub struct Params {
@@ -15,4 +17,6 @@ pub struct Params {
     pub leaf: u64,
     /// The ticks from one snapshot to the next: 1 to 2^40.
     pub every: u64,
+    /// What the border of the box does.
+    pub edge: Edge,
 }

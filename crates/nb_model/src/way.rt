@@ -5,6 +5,6 @@
 pub enum Way {
     /// Time goes on by 1.
     Forward,
-    /// Time goes back by 1, and the tick undoes one forward, but for bodies that leave the box.
+    /// Time goes back by 1, and the tick undoes one forward, but for bodies that become out.
     Back,
 }

@@ -2,7 +2,7 @@ use Rattle.std.proofs.Common.{arith}
 use Rattle.std.proofs.lemmas.Int.{ints}
 use Rattle.nb_model.specs.declared.way.Way.TheVariants.{Back}
 use Rattle.nb_model.specs.Leapfrog.{changed}
-use Rattle.nb_model.proofs.Vectors.{same_vector}
+use Rattle.nb_model.proofs.Facts.{same_vector}
 use Rattle.nb_fixed.proofs.leapfrog.changed.Goals as goal
 
 pub returns-in-Forward : goal.returns-in-Forward

@@ -2,7 +2,7 @@ use Rattle.std.proofs.Common.{◌≡◌, ◌∙◌, arith, not}
 use Rattle.std.proofs.lemmas.List.Elements.{All-same, All-filter}
 use Rattle.nb_model.specs.Leapfrog.{in_box}
 use Rattle.nb_model.specs.Valid.{IsValidBody}
-use Rattle.nb_model.proofs.Steps.{length-in_box-le, gm-in_box}
+use Rattle.nb_model.proofs.Facts.{length-in_box-le, gm-in_box}
 use Rattle.nb_fixed.proofs.leapfrog.kick.Goals as goal
 
 pub kicked_body-requires-clause-each : goal.kicked_body-requires-clause-each

@@ -1,4 +1,4 @@
-use Rattle.nb_model.proofs.Forces.{force_on_below}
+use Rattle.nb_model.proofs.Facts.{force_on_below}
 use Rattle.nb_fixed.proofs.leapfrog.kicked_body.Goals as goal
 
 pub changed-requires-clause-change : goal.changed-requires-clause-change

@@ -3,7 +3,7 @@ use Rattle.std.proofs.lemmas.List.{take_at}
 use Rattle.std.proofs.lemmas.List.Elements.{All-same}
 use Rattle.nb_model.specs.Leapfrog.{kick, drift, step}
 use Rattle.nb_model.specs.Valid.{IsKickedBody}
-use Rattle.nb_model.proofs.Steps.{All-kick, drift-kick_valid, step_valid}
+use Rattle.nb_model.proofs.Facts.{All-kick, drift-kick_valid, step_valid}
 use Rattle.nb_fixed.proofs.leapfrog.plain_tick.Goals as goal
 
 pub drift-requires : goal.drift-requires
@@ -21,7 +21,7 @@ kick-requires-2-clause-valid c =
     let bodies = c.args.bodies.now.items in
     let kicked : c.deref_mut.result.now ≡ kick params way bodies = c.deref_mut.ensures.value ∙ c.in_ok-drifted.ensures ∙ ap (kick params way) c.deref.ensures.value in
     let whole : c.deref-2.result.now ≡ c.drift.new.bodies = c.deref-2.ensures.value ∙ take_at c.drift.new.bodies _ c.in_ok-drifted.drifted.len (omega arith) in
-    let drifted : c.deref-2.result.now ≡ drift way (kick params way bodies) = whole ∙ c.drift.ensures ∙ ap (drift way) kicked in
+    let drifted : c.deref-2.result.now ≡ drift params way (kick params way bodies) = whole ∙ c.drift.ensures ∙ ap (drift params way) kicked in
     rw drifted (drift-kick_valid params way bodies c.requires.valid)
 
 pub returns-clause-stays_valid : goal.returns-clause-stays_valid
@@ -31,6 +31,6 @@ returns-clause-stays_valid c =
     let bodies = c.args.bodies.now.items in
     let kicked : c.deref_mut.result.now ≡ kick params way bodies = c.deref_mut.ensures.value ∙ c.in_ok-drifted.ensures ∙ ap (kick params way) c.deref.ensures.value in
     let whole : c.deref-2.result.now ≡ c.drift.new.bodies = c.deref-2.ensures.value ∙ take_at c.drift.new.bodies _ c.in_ok-drifted.drifted.len (omega arith) in
-    let drifted : c.deref-2.result.now ≡ drift way (kick params way bodies) = whole ∙ c.drift.ensures ∙ ap (drift way) kicked in
+    let drifted : c.deref-2.result.now ≡ drift params way (kick params way bodies) = whole ∙ c.drift.ensures ∙ ap (drift params way) kicked in
     let stepped : c.in_ok-kicked.kicked.items ≡ step params way bodies = c.in_ok-kicked.ensures ∙ ap (kick params way) drifted in
     rw stepped (step_valid params way bodies c.requires.valid)

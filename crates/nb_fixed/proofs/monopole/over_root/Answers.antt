@@ -1,5 +1,5 @@
 use Rattle.std.proofs.Common.{ℕ, ◌*◌, ◌/◌, ◌^◌, ◌<◌, arith}
-use Rattle.nb_model.proofs.Roots.{le-integer_root}
+use Rattle.nb_model.proofs.Facts.{le-integer_root}
 use Rattle.nb_fixed.proofs.Inverses.{IsAlmostQuotient, almost_quotient, quotient_reached, quotient_one_more}
 use Rattle.nb_fixed.specs.declared.monopole.Scale.{Scale}
 use Rattle.nb_fixed.proofs.monopole.over_root.Goals as goal

@@ -1,7 +1,7 @@
 use Rattle.std.proofs.Common.{◌≤◌, sym, arith}
 use Rattle.std.proofs.lemmas.Nat.{mul-le}
-use Rattle.nb_model.proofs.Roots.{le-integer_root}
-use Rattle.nb_model.proofs.Pulls.{pull_too_far}
+use Rattle.nb_model.proofs.Facts.{le-integer_root}
+use Rattle.nb_model.proofs.Facts.{pull_too_far}
 use Rattle.nb_fixed.proofs.monopole.pull.Goals as goal
 
 pub returns-then-square-from : goal.returns-then-square-from

@@ -1,7 +1,7 @@
 use Rattle.std.proofs.Common.{◌≡◌, ◌+◌, ◌-◌, ◌*◌, ◌/◌, ◌%◌, ◌<◌, ◌≤◌, sym, ap, ◌∙◌, arith}
 use Rattle.nb_model.specs.Limits.{gm_limit}
-use Rattle.nb_model.proofs.Roots.{le-integer_root}
-use Rattle.nb_model.proofs.Quotients.{pull_size-floor, pull_size-next, quotient_bound}
+use Rattle.nb_model.proofs.Facts.{le-integer_root}
+use Rattle.nb_model.proofs.Facts.{pull_size-floor, pull_size-next, quotient_bound}
 use Rattle.nb_fixed.proofs.monopole.size_along.Goals.{Then-missing-made_up, Else-missing-made_up}
 use Rattle.nb_fixed.proofs.monopole.size_along.Goals as goal
 

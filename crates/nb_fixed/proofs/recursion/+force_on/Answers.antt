@@ -3,13 +3,15 @@ use Rattle.std.proofs.lemmas.Bool.{eqb-true, eqb-false}
 use Rattle.std.proofs.lemmas.List.{nil_from_length, length-map}
 use Rattle.std.proofs.lemmas.List.Elements.{All-same, All-filter}
 use Rattle.nb_model.specs.declared.body.Body.{Body}
+use Rattle.nb_model.specs.declared.body.V3.{V3}
 use Rattle.nb_model.specs.Limits.{deepest_level}
 use Rattle.nb_model.specs.Octree.{octant_at, in_octant, total_mass, centre_of_mass}
+use Rattle.nb_model.specs.Vector.{plus}
 use Rattle.nb_model.specs.Gravity.{force_on, pull}
 use Rattle.nb_model.specs.Valid.{IsValidBody}
-use Rattle.nb_model.proofs.Octants.{length-in_octant-le}
-use Rattle.nb_model.proofs.Forces.{force_on_below, gm-in_octant, octant_forces-take_below}
-use Rattle.nb_model.proofs.Cells.{force_on-nil, force_on-accepted, force_on-deepest_leaf, force_on-small_leaf, force_on-divided, is_accepted-opens, octant_forces_more, octant_forces_all}
+use Rattle.nb_model.proofs.Facts.{length-in_octant-le}
+use Rattle.nb_model.proofs.Facts.{force_on_below, gm-in_octant, octant_forces-take_below}
+use Rattle.nb_model.proofs.Facts.{force_on-nil, force_on-accepted, force_on-deepest_leaf, force_on-small_leaf, force_on-divided, is_accepted-opens, octant_forces_more, octant_forces_all}
 use Rattle.nb_fixed.proofs.OneOctant.{octant_forces-one}
 use Rattle.nb_fixed.proofs.recursion.+force_on.Goals as goal
 
@@ -77,13 +79,19 @@ plus-total-requires-clause-second t c =
     let part : c.deref-in-loop-octant.result.now ≡ in_octant c.down.level bodies c.loop-octant.octant = c.deref-in-loop-octant.ensures.value ∙ c.in_ok-part.ensures c.down.level (c.deref.ensures.value ∙ c.in_ok-octants.ensures) in
     rw (c.in_ok-force_on.ensures, part) (force_on_below c.args.params.now c.args.from.now (c.down.level + 1) (in_octant c.down.level bodies c.loop-octant.octant) (gm-in_octant c.args.params.now.grav c.down.level bodies c.loop-octant.octant c.requires.gm))
 
+same_plus : {v w x y : V3} → v ≡ w → x ≡ y → plus v x ≡ plus w y
+same_plus first second = cc
+
 pub loop-octant-preserved : goal.loop-octant-preserved
 loop-octant-preserved t c =
-    let more = octant_forces_more c.args.params.now c.args.from.now c.down.level c.args.bodies.now c.loop-octant.octant (omega arith) in
-    let part : c.deref-in-loop-octant.result.now ≡ in_octant c.down.level c.args.bodies.now c.loop-octant.octant = c.deref-in-loop-octant.ensures.value ∙ c.in_ok-part.ensures c.down.level (c.deref.ensures.value ∙ c.in_ok-octants.ensures) in
-    let added = c.plus-total.ensures in
-    let force = c.in_ok-force_on.ensures in
-    cc
+    let params = c.args.params.now in
+    let from = c.args.from.now in
+    let bodies = c.args.bodies.now in
+    let level = c.down.level in
+    let octant = c.loop-octant.octant in
+    let part : c.deref-in-loop-octant.result.now ≡ in_octant level bodies octant = c.deref-in-loop-octant.ensures.value ∙ c.in_ok-part.ensures level (c.deref.ensures.value ∙ c.in_ok-octants.ensures) in
+    let force = c.in_ok-force_on.ensures ∙ ap (force_on params from (level + 1)) part in
+    c.plus-total.ensures ∙ same_plus c.loop-octant.invariant force ∙ sym (octant_forces_more params from level bodies octant (omega arith))
 
 pub returns : goal.returns
 returns t c =

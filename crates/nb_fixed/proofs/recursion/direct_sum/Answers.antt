@@ -3,7 +3,7 @@ use Rattle.std.proofs.Math.Nat.{mul-le-mul_left}
 use Rattle.std.proofs.lemmas.List.Sums.{get_or-le-sum_by}
 use Rattle.nb_model.specs.declared.body.Body.{Body}
 use Rattle.nb_model.specs.Limits.{gm_limit}
-use Rattle.nb_model.proofs.Forces.{pull_below, direct_sum-take_below}
+use Rattle.nb_model.proofs.Facts.{pull_below, direct_sum-take_below}
 use Rattle.nb_fixed.proofs.recursion.direct_sum.Goals as goal
 
 pub plus-total-requires-clause-first : goal.plus-total-requires-clause-first

@@ -1,7 +1,7 @@
 use Rattle.std.proofs.Common.{arith}
 use Rattle.std.proofs.lemmas.Int.{ints}
 use Rattle.nb_model.specs.Vector.{plus}
-use Rattle.nb_model.proofs.Vectors.{same_vector}
+use Rattle.nb_model.proofs.Facts.{same_vector}
 use Rattle.nb_fixed.proofs.recursion.plus.Goals as goal
 
 pub returns : goal.returns

@@ -1,4 +1,4 @@
-use Rattle.nb_model.proofs.Roots.{is_integer_root}
+use Rattle.nb_model.proofs.Facts.{is_integer_root}
 use Rattle.nb_fixed.proofs.square_root.root.Goals as goal
 
 pub returns-then-q-eq0-clause-root : goal.returns-then-q-eq0-clause-root

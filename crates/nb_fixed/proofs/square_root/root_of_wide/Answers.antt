@@ -1,5 +1,5 @@
 use Rattle.std.proofs.Common.{◌+◌, ◌*◌, ◌^◌, arith}
-use Rattle.nb_model.proofs.Roots.{below_from_squares}
+use Rattle.nb_model.proofs.Facts.{below_from_squares}
 use Rattle.nb_fixed.proofs.Shifts.{root_shifted, shifted}
 use Rattle.nb_fixed.proofs.square_root.root_of_wide.Goals as goal
 

@@ -1,5 +1,5 @@
 use Rattle.std.proofs.Common.{arith}
-use Rattle.nb_model.proofs.Roots.{integer_root_is}
+use Rattle.nb_model.proofs.Facts.{integer_root_is}
 use Rattle.nb_fixed.proofs.Shifts.{root_shifted, shifted}
 use Rattle.nb_fixed.proofs.square_root.root_of_word.Goals as goal
 

@@ -6,7 +6,7 @@ use Rattle.nb_fixed.proofs.tests.are_valid_bodies.Goals as goal
 
 pub loop-body-preserved : goal.loop-body-preserved
 loop-body-preserved c =
-    All-more IsValidBody c.args.bodies.now c.loop-body.body-index _ c.loop-body-test.true c.loop-body.invariant (c.is_valid_body.ensures c.if-not-is_valid_body.false)
+    All-more IsValidBody c.args.bodies.now c.loop-body.body-index _ c.loop-body-test.true c.loop-body.invariant (c.is_valid.ensures.0 c.if-not-is_valid.false)
 
 pub returns : goal.returns
 returns c = λ _.

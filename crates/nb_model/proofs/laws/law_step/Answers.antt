@@ -2,4 +2,4 @@ use Rattle.nb_model.proofs.Steps.{step_valid}
 use Rattle.nb_model.proofs.laws.law_step.Goals as goal
 
 pub returns : goal.returns
-returns c = λ params way bodies _ valid. step_valid params way bodies valid
+returns c = step_valid
