@@ -1,0 +1,56 @@
+-- What a `Journal` keeps of its file.
+use Rattle.std.specs.Prelude.{◌≡◌, ℕ, ◌+◌, ◌*◌, ◌^◌, ◌<◌, ◌≤◌, List, [], length}
+use Rattle.nb_model.specs.declared.params.Params.{Params}
+use Rattle.nb_model.specs.Limits.{most_bodies, most_ticks}
+use Rattle.nb_model.specs.Valid.{AreInRange}
+use Rattle.nb_journal.specs.declared.entry.Entry.{Entry}
+use Rattle.nb_journal.specs.Entries.{Standing, after, distance}
+use Rattle.nb_journal.specs.Form.{Log, standing_of}
+
+-- the parameters, how many bodies there are, the time at the start, how many entries there are, and what they come to
+pub record Counters : Type 0 where
+  pub params : Params
+  pub count : ℕ
+  pub begin_time : ℕ
+  pub entries : ℕ
+  pub standing : Standing
+
+abbrev pub counters_of : Log → Counters
+counters_of log = record {
+  params = log.params;
+  count = log.count;
+  begin_time = log.begin_time;
+  entries = length log.entries;
+  standing = standing_of log;
+}
+
+-- the counters are those of the log
+abbrev pub Answers : Log → Counters → Type 0
+Answers log counters = counters ≡ counters_of log
+
+-- the counters after one more entry
+abbrev pub counters_after : Entry → Counters → Counters
+counters_after entry counters =
+    record counters { entries = counters.entries + 1; standing = after entry counters.standing }
+
+-- The log of a run that is to be started, without entries, in the form's present version.
+abbrev pub new_log : Params → ℕ → ℕ → ℕ → Log
+new_log params count time gone = record {
+  version = 2;
+  params = params;
+  count = count;
+  begin_time = time;
+  begin_gone = gone;
+  entries = [];
+}
+
+-- What holds of each `Journal`, whatever its host tells: so no number that it keeps, and no place in its file, is too
+-- large for its type.
+pub record AreInReach (counters : Counters) : Type 0 where
+  pub params : AreInRange counters.params
+  pub count : counters.count ≤ most_bodies
+  pub gone : counters.standing.gone ≤ counters.count
+  pub ticks : counters.standing.ticks + distance counters.standing.time counters.standing.target ≤ most_ticks
+  pub entries : counters.entries ≤ 2 * counters.standing.ticks + 1
+  pub ended : counters.standing.time ≡ counters.standing.target
+      → counters.entries ≤ 2 * counters.standing.ticks

@@ -1,0 +1,6 @@
+pub mod Places
+pub mod Entries
+pub mod Form
+pub mod Counters
+pub mod Images
+pub mod Finding

@@ -1,0 +1,22 @@
+//! The journal of a run: which parameters it has, and which legs and ticks were done. It is a write-ahead
+//! journal, in which one byte, the gate, makes an entry count.
+//!
+//! `find` reads it; `prepare`, `start_gate` and `Journal::append` write it, so that a crash at any moment
+//! leaves it with or without the new entry. The meanings stand in `specs/`: `Form` is which file is which
+//! journal, and `Images` is what a crash may leave.
+#![tactic(auto)]
+
+mod entry;
+mod error;
+mod finding;
+mod form;
+mod journal;
+mod laws;
+mod ready;
+
+pub use entry::Entry;
+pub use error::JournalError;
+pub use finding::Opened;
+pub use journal::Journal;
+pub use laws::law_places;
+pub use ready::Ready;
