@@ -10,8 +10,8 @@ use Rattle.nb_model.specs.Limits.{most_bodies}
 use Rattle.nb_model.specs.Valid.{AreInRange}
 use Rattle.nb_journal.specs.declared.entry.Entry.{Entry}
 use Rattle.nb_journal.specs.declared.entry.Entry.TheVariants.{Leg, Tick}
-use Rattle.nb_journal.specs.Entries.{Standing, IsNext, AreLawful, after_all}
-use Rattle.nb_journal.specs.Places.{page_length, entries_per_page, started_gate, entry_gate, place_of, next_page, BeginsWith}
+use Rattle.nb_journal.specs.Entries.{Progress, IsNext, AreLawful, after_all}
+use Rattle.nb_journal.specs.Places.{page_length, entries_per_page, started_gate, entry_gate, place_of, page_end, BeginsWith}
 
 -- What a journal tells: the version of its form, the run's parameters, how many bodies there are, the time at the start,
 -- how many bodies were out then, and the entries.
@@ -24,12 +24,12 @@ pub record Log : Type 0 where
   pub entries : List Entry
 
 -- what it comes to before its entries
-abbrev pub begun : Log → Standing
+abbrev pub begun : Log → Progress
 begun log = record { ticks = 0; time = log.begin_time; target = log.begin_time; gone = log.begin_gone }
 
 -- what it comes to
-abbrev pub standing_of : Log → Standing
-standing_of log = after_all log.entries (begun log)
+abbrev pub progress_of : Log → Progress
+progress_of log = after_all log.entries (begun log)
 
 -- the log with one more entry
 abbrev pub with_entry : Log → Entry → Log
@@ -63,14 +63,18 @@ front gate log =
     ++ to_le_bytes w64 (edge_number log.params.edge))
 
 -- page 0
-abbrev pub header : ℕ → Log → List ℕ
+unfoldable pub header : ℕ → Log → List ℕ
 header gate log = front gate log ++ replicate 4008 0
 
--- An entry that counts: the gate, L for a leg or T for a tick, and their numbers.
+-- an entry that counts: the gate, a letter, and two numbers
+abbrev pub lettered : ℕ → ℕ → ℕ → List ℕ
+lettered letter first second =
+    entry_gate ∷ letter ∷ (replicate 6 0 ++ to_le_bytes w64 first ++ to_le_bytes w64 second ++ replicate 8 0)
+
+-- an entry that counts: L for a leg, and T for a tick
 abbrev pub entry_bytes : Entry → List ℕ
-entry_bytes (Leg target) = entry_gate ∷ 76 ∷ (replicate 6 0 ++ to_le_bytes w64 target ++ replicate 16 0)
-entry_bytes (Tick number gone) =
-    entry_gate ∷ 84 ∷ (replicate 6 0 ++ to_le_bytes w64 number ++ to_le_bytes w64 gone ++ replicate 8 0)
+entry_bytes (Leg target) = lettered 76 target 0
+entry_bytes (Tick number gone) = lettered 84 number gone
 
 -- the one spelling of a log
 abbrev pub text : Log → List ℕ
@@ -85,12 +89,12 @@ IsFresh file = (length file ≤ page_length) ⊎ (slice_index file 0 ≢ started
 pub record IsJournal (log : Log) (file : List ℕ) : Type 0 where
   pub lawful : IsLawful log
   pub begins : BeginsWith (text log) file
-  pub pages : place_of (next_page (length log.entries)) ≤ length file
+  pub pages : place_of (page_end (length log.entries)) ≤ length file
   pub shut : slice_index file (place_of (length log.entries)) ≢ entry_gate
 
 -- No gate is open from the next entry on to the end of its page.
 abbrev pub HasCleanTail : Log → List ℕ → Type 0
-HasCleanTail log file = (i : ℕ) → length log.entries ≤ i → i < next_page (length log.entries)
+HasCleanTail log file = (i : ℕ) → length log.entries ≤ i → i < page_end (length log.entries)
     → slice_index file (place_of i) ≢ entry_gate
 
 pub record IsCleanJournal (log : Log) (file : List ℕ) : Type 0 where
@@ -107,19 +111,20 @@ pub record IsStarted (file : List ℕ) : Type 0 where
 abbrev pub HasNoHeader : List ℕ → Type 0
 HasNoHeader file = (log : Log) → IsLawful log → BeginsWith (text log) file → ⊥
 
--- the page that begins with entry n is looked at, and isn't whole
+-- the file ends within the page that begins with entry n
 pub record LacksPage (n : ℕ) (file : List ℕ) : Type 0 where
   pub first : n % entries_per_page ≡ 0
   pub short : length file < place_of n + page_length
 
 -- The next entry's page is whole and its gate is open, and it is no lawful next one.
 pub record HasBadEntry (log : Log) (file : List ℕ) : Type 0 where
-  pub page : place_of (next_page (length log.entries)) ≤ length file
+  pub page : place_of (page_end (length log.entries)) ≤ length file
   pub gate : slice_index file (place_of (length log.entries)) ≡ entry_gate
-  pub bad : (entry : Entry) → IsNext log.count (standing_of log) entry
+  pub bad : (entry : Entry) → IsNext log.count (progress_of log) entry
       → BeginsWith (text (with_entry log entry)) file → ⊥
 
--- Behind the text of this log stands what is wrong.
+-- Behind the text of this log stands what is wrong: a page that is looked at, since the gates before it are open, or an
+-- entry.
 pub record StopsBehind (log : Log) (place : ℕ) (file : List ℕ) : Type 0 where
   pub lawful : IsLawful log
   pub begins : BeginsWith (text log) file

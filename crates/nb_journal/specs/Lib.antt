@@ -3,4 +3,5 @@ pub mod Entries
 pub mod Form
 pub mod Counters
 pub mod Images
+pub mod Laying
 pub mod Finding

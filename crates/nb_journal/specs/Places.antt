@@ -1,4 +1,6 @@
--- Where the parts of a journal stand in its file, in bytes, and the bytes of its gates.
+-- Where the parts of a journal stand in its file, in bytes, and the bytes of its gates. A gate is the commit byte of a
+-- write-ahead journal: what stands behind it counts once it is open. A journal is clean where no gate of an old entry is
+-- open behind its last one.
 use Rattle.std.specs.Prelude.{◌≡◌, ℕ, ◌+◌, ◌*◌, ◌/◌, ◌<◌, ◌≤◌, List, length, slice_index}
 
 -- the number of the journal's file
@@ -28,8 +30,8 @@ abbrev pub place_of : ℕ → ℕ
 place_of n = page_length + entry_length * n
 
 -- the number of the first entry behind the page of entry n
-abbrev pub next_page : ℕ → ℕ
-next_page n = entries_per_page * (n / entries_per_page + 1)
+abbrev pub page_end : ℕ → ℕ
+page_end n = entries_per_page * (n / entries_per_page + 1)
 
 -- The file begins with these bytes.
 pub record BeginsWith (bytes file : List ℕ) : Type 0 where

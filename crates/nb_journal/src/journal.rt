@@ -1,19 +1,19 @@
 //! A started journal.
 
-ghost use Rattle.std.specs.Prelude.{◌≡◌, ◌+◌, ◌^◌, ◌<◌, ◌≤◌, [], ◌∷◌, IsTrue, IfOk, OnOk};
-ghost use Rattle.nb_model.specs.Limits.{most_bodies, most_ticks};
-ghost use Rattle.nb_model.specs.Valid.{AreInRange};
+ghost use Rattle.std.specs.Prelude.{◌≡◌, ◌≢◌, ◌^◌, ◌<◌, ◌≤◌, [], ◌∷◌, length, IsTrue, IfOk, OnOk};
 ghost use Rattle.nb_host.specs.Crashes.{AgreesOutside, ImagesFollow};
 ghost use Rattle.nb_host.specs.Image.{FileBecomes, IsOverwritten, IsTorn};
 ghost use Rattle.nb_host.specs.Meaning.{IsDurable, Over, Ran};
 ghost use Rattle.nb_journal.specs.Counters.{Answers, AreInReach, counters_after};
-ghost use Rattle.nb_journal.specs.Entries.{IsNext};
+ghost use Rattle.nb_journal.specs.Entries.{IsNext, toward};
 ghost use Rattle.nb_journal.specs.Form.{Log, IsCleanJournal, with_entry};
 ghost use Rattle.nb_journal.specs.Images.{IsReady, Appends};
-ghost use Rattle.nb_journal.specs.Places.{journal_file};
+ghost use Rattle.nb_journal.specs.Laying.{Lays, IsEntryWritten};
+ghost use Rattle.nb_journal.specs.Places.{journal_file, place_of, page_end};
 
 use crate::entry::Entry;
-use nb_host::{Host, HostError};
+use crate::form::{COUNTS, ENTRIES_PER_PAGE, JOURNAL_FILE, place_of, spell};
+use nb_host::{Host, HostError, PAGE_SIZE};
 use nb_model::Params;
 use std::marker::Model;
 
@@ -40,7 +40,7 @@ impl Model for Journal {
       count = j.count;
       begin_time = j.begin_time;
       entries = j.entries;
-      standing = record { ticks = j.ticks; time = j.time; target = j.target; gone = j.gone };
+      progress = record { ticks = j.ticks; time = j.time; target = j.target; gone = j.gone };
     } };
 
     ghost invariant = { λ j. AreInReach (record {
@@ -48,7 +48,7 @@ impl Model for Journal {
       count = j.count;
       begin_time = j.begin_time;
       entries = j.entries;
-      standing = record { ticks = j.ticks; time = j.time; target = j.target; gone = j.gone };
+      progress = record { ticks = j.ticks; time = j.time; target = j.target; gone = j.gone };
     }) };
 }
 
@@ -84,29 +84,110 @@ impl Journal {
 
     /// How many ticks are done.
     pub fn ticks(&self) -> u64
-        ensures { result ≡ self.now.standing.ticks }
+        ensures { result ≡ self.now.progress.ticks }
     {
         self.ticks
     }
 
     /// The time, in ticks.
     pub fn time(&self) -> u64
-        ensures { result ≡ self.now.standing.time }
+        ensures { result ≡ self.now.progress.time }
     {
         self.time
     }
 
     /// The target of the last leg, or the time at the start where there is no leg.
     pub fn target(&self) -> u64
-        ensures { result ≡ self.now.standing.target }
+        ensures { result ≡ self.now.progress.target }
     {
         self.target
     }
 
     /// How many bodies are out.
     pub fn gone(&self) -> u64
-        ensures { result ≡ self.now.standing.gone }
+        ensures { result ≡ self.now.progress.gone }
     {
         self.gone
     }
+
+    /// Adds an entry: it is laid behind its gate, and the gate opens when all that was written before, in
+    /// every file, is durable. A refusal hands nothing back. The journal then has the entry or hasn't, and is
+    /// to be found again.
+    pub fn append<H: Host>(self, host: &mut H, entry: Entry) -> Result<Journal, HostError>
+        requires next { IsNext self.count self.progress entry }
+        ensures counters { IfOk result (λ journal. journal ≡ counters_after entry self) }
+        ensures added { OnOk result ((log : Log) → Answers log self → IsTrue H.meaning.tells
+            → IsCleanJournal log ((H.meaning.contents host.old).file journal_file)
+            → IsCleanJournal (with_entry log entry) ((H.meaning.contents host.new).file journal_file)) }
+        ensures durable { OnOk result (IsDurable H.meaning host.new) }
+        ensures images { (log : Log) → Answers log self → IsReady H.meaning log host.old
+            → ImagesFollow H.meaning.crashes host.old host.new
+            (Appends log entry (H.meaning.contents host.old)) }
+        ensures ran { Ran H.meaning HostError.Fault (AgreesOutside (journal_file ∷ [])) host.old host.new
+            result }
+    {
+        let entries = self.entries;
+        let journal = self.with(entry);
+        lay(host, entries, entry)?;
+        host.sync()?;
+        open_gate(host, place_of(entries), COUNTS)?;
+        Ok(journal)
+    }
+
+    /// The counters after the entry.
+    fn with(self, entry: Entry) -> Journal
+        requires { IsNext self.count self.progress entry }
+        ensures counters { result ≡ counters_after entry self }
+    {
+        let mut journal = self;
+        journal.entries += 1;
+        match entry {
+            Entry::Leg(target) => journal.target = target,
+            Entry::Tick(number, gone) => {
+                journal.ticks = number;
+                journal.time = time_toward(journal.time, journal.target);
+                journal.gone = gone;
+            }
+        }
+        journal
+    }
+}
+
+/// The time after a tick toward the target.
+fn time_toward(time: u64, target: u64) -> u64
+    requires { time ≢ target }
+    ensures { result ≡ toward time target }
+{
+    if time < target { time + 1 } else { time - 1 }
+}
+
+/// Lays an entry behind its gate. Where it is the last of its page, the next page becomes zeros.
+fn lay<H: Host>(host: &mut H, entries: u64, entry: Entry) -> Result<(), HostError>
+    requires few { entries < 2 ^ 42 }
+    ensures laid { OnOk result (IsTrue H.meaning.tells
+        → place_of (page_end entries) ≤ length ((H.meaning.contents host.old).file journal_file)
+        → IsEntryWritten entries entry ((H.meaning.contents host.new).file journal_file)) }
+    ensures ran { Ran H.meaning HostError.Fault (Lays entries) host.old host.new result }
+{
+    let bytes = spell(entry);
+    host.write_at(JOURNAL_FILE, place_of(entries) + 1, &bytes[1..])?;
+    if entries % ENTRIES_PER_PAGE != ENTRIES_PER_PAGE - 1 {
+        return Ok(());
+    }
+    host.write_at(JOURNAL_FILE, place_of(entries + 1), &[0; PAGE_SIZE])?;
+    Ok(())
+}
+
+/// Writes a gate, and makes it durable.
+pub(crate) fn open_gate<H: Host>(host: &mut H, place: u64, gate: u8) -> Result<(), HostError>
+    requires { place < 2 ^ 60 }
+    ensures opened { OnOk result (Over H.meaning (FileBecomes journal_file (IsOverwritten place (gate ∷ [])))
+        host.old host.new) }
+    ensures durable { OnOk result (IsDurable H.meaning host.new) }
+    ensures ran { Ran H.meaning HostError.Fault (FileBecomes journal_file (IsTorn place 1)) host.old host.new
+        result }
+{
+    host.write_at(JOURNAL_FILE, place, &[gate])?;
+    host.sync()?;
+    Ok(())
 }

@@ -18,5 +18,5 @@ pub use entry::Entry;
 pub use error::JournalError;
 pub use finding::Opened;
 pub use journal::Journal;
-pub use laws::law_places;
-pub use ready::Ready;
+pub use laws::{law_kept, law_places, law_ready};
+pub use ready::{Ready, prepare, start_gate};

@@ -1,0 +1,6 @@
+mod Texts
+mod Gates
+mod Steps
+mod Laid
+mod Appending
+mod Starting
