@@ -4,3 +4,8 @@ mod Steps
 mod Laid
 mod Appending
 mod Starting
+mod Spelled
+mod Found
+mod Headings
+mod Indexed
+mod Unique

@@ -31,7 +31,7 @@ header_shut : (log : Log) → slice_index (header 0 log) 0 ≡ 0
 unfolding header
 header_shut log = refl
 
-header_open : (log : Log) → slice_index (header 83 log) 0 ≡ 83
+pub header_open : (log : Log) → slice_index (header 83 log) 0 ≡ 83
 unfolding header
 header_open log = refl
 

@@ -1,11 +1,12 @@
 -- What a `Journal` keeps of its file.
 use Rattle.std.specs.Prelude.{◌≡◌, ℕ, ◌+◌, ◌*◌, ◌^◌, ◌<◌, ◌≤◌, List, [], length}
+use Rattle.std.specs.Int.{abs_diff}
 use Rattle.nb_model.specs.declared.params.Params.{Params}
 use Rattle.nb_model.specs.Limits.{most_bodies, most_ticks}
 use Rattle.nb_model.specs.Valid.{AreInRange}
 use Rattle.nb_journal.specs.declared.entry.Entry.{Entry}
 use Rattle.nb_journal.specs.declared.form.Heading.{Heading}
-use Rattle.nb_journal.specs.Entries.{Progress, after, distance}
+use Rattle.nb_journal.specs.Entries.{Progress, after}
 use Rattle.nb_journal.specs.Form.{Log, progress_of}
 
 -- the parameters, how many bodies there are, the time at the start, how many entries there are, and what they come to
@@ -45,6 +46,16 @@ log_under heading = record {
   entries = [];
 }
 
+-- the heading of a log
+abbrev pub heading_of : Log → Heading
+heading_of log = record {
+  version = log.version;
+  params = log.params;
+  count = log.count;
+  time = log.begin_time;
+  gone = log.begin_gone;
+}
+
 -- the log of a run that is to be started, in the form's present version
 abbrev pub new_log : Params → ℕ → ℕ → ℕ → Log
 new_log params count time gone =
@@ -56,7 +67,7 @@ pub record AreInReach (counters : Counters) : Type 0 where
   pub params : AreInRange counters.params
   pub count : counters.count ≤ most_bodies
   pub gone : counters.progress.gone ≤ counters.count
-  pub ticks : counters.progress.ticks + distance counters.progress.time counters.progress.target ≤ most_ticks
+  pub ticks : counters.progress.ticks + abs_diff counters.progress.time counters.progress.target ≤ most_ticks
   pub entries : counters.entries ≤ 2 * counters.progress.ticks + 1
   pub ended : counters.progress.time ≡ counters.progress.target
       → counters.entries ≤ 2 * counters.progress.ticks

@@ -1,5 +1,6 @@
 -- The entries of a journal, and which may come next.
 use Rattle.std.specs.Prelude.{◌≡◌, ◌≢◌, ⊤, ℕ, ◌+◌, ◌-◌, ◌^◌, ◌<◌, ◌≤◌, nat_lt, if◌then◌else◌, List, [], ◌∷◌}
+use Rattle.std.specs.Int.{abs_diff}
 use Rattle.nb_model.specs.Limits.{most_ticks}
 use Rattle.nb_journal.specs.declared.entry.Entry.{Entry}
 use Rattle.nb_journal.specs.declared.entry.Entry.TheVariants.{Leg, Tick}
@@ -16,10 +17,6 @@ pub record Progress : Type 0 where
 abbrev pub toward : ℕ → ℕ → ℕ
 toward time target = if nat_lt time target then time + 1 else time - 1
 
--- how many ticks lead from one time to another
-abbrev pub distance : ℕ → ℕ → ℕ
-distance from to = (to - from) + (from - to)
-
 abbrev pub after : Entry → Progress → Progress
 after (Leg target) s = record s { target = target }
 after (Tick number gone) s =
@@ -34,7 +31,7 @@ pub record IsNextLeg (s : Progress) (target : ℕ) : Type 0 where
   pub fits : target < 2 ^ 64
   pub ended : s.time ≡ s.target
   pub apart : target ≢ s.time
-  pub limit : s.ticks + distance s.time target ≤ most_ticks
+  pub limit : s.ticks + abs_diff s.time target ≤ most_ticks
 
 -- A tick of the last leg. No body comes back.
 pub record IsNextTick (count : ℕ) (s : Progress) (number gone : ℕ) : Type 0 where

@@ -5,3 +5,4 @@ pub mod Counters
 pub mod Images
 pub mod Laying
 pub mod Finding
+pub mod Reading

@@ -40,10 +40,10 @@ const FRONT_LENGTH: usize = 88;
 const NAME: &[u8; 6] = b"NBJRNL";
 
 /// The digit of version 0.
-const DIGITS: u8 = b'0';
+pub(crate) const DIGITS: u8 = b'0';
 
 /// The letter of a leg.
-const LEG: u8 = b'L';
+pub(crate) const LEG: u8 = b'L';
 
 /// The letter of a tick.
 const TICK: u8 = b'T';

@@ -1,20 +1,24 @@
 //! A started journal.
 
-ghost use Rattle.std.specs.Prelude.{◌≡◌, ◌≢◌, ◌^◌, ◌<◌, ◌≤◌, [], ◌∷◌, length, IsTrue, IfOk, OnOk};
-ghost use Rattle.nb_host.specs.Crashes.{AgreesOutside, ImagesFollow};
+ghost use Rattle.std.specs.Prelude.{◌≡◌, ◌≢◌, ◌^◌, ◌<◌, ◌≤◌, [], ◌∷◌, length, IsTrue, ℕ, ◌↔◌, IfSome, None, Err, IfOk, OnOk};
+ghost use Rattle.nb_host.specs.Crashes.{AgreesOutside, ImagesFollow, Stays};
 ghost use Rattle.nb_host.specs.Image.{FileBecomes, IsOverwritten, IsTorn};
 ghost use Rattle.nb_host.specs.Meaning.{IsDurable, Over, Ran};
-ghost use Rattle.nb_journal.specs.Counters.{Answers, AreInReach, counters_after};
+ghost use Rattle.nb_journal.specs.declared.entry.Entry.{Entry as Entries};
+ghost use Rattle.nb_journal.specs.Counters.{Answers, AreInReach, counters_after, counters_of, log_under};
 ghost use Rattle.nb_journal.specs.Entries.{IsNext, toward};
-ghost use Rattle.nb_journal.specs.Form.{Log, IsCleanJournal, with_entry};
+ghost use Rattle.nb_journal.specs.Finding.{IsEntryOf, LacksEntry};
+ghost use Rattle.nb_journal.specs.Form.{Log, IsLawful, IsCleanJournal, entry_bytes, with_entry};
 ghost use Rattle.nb_journal.specs.Images.{IsReady, Appends};
 ghost use Rattle.nb_journal.specs.Laying.{Lays, IsEntryWritten};
 ghost use Rattle.nb_journal.specs.Places.{journal_file, place_of, page_end};
 
 use crate::entry::Entry;
-use crate::form::{COUNTS, ENTRIES_PER_PAGE, JOURNAL_FILE, place_of, spell};
+use crate::error::JournalError;
+use crate::form::{COUNTS, ENTRIES_PER_PAGE, ENTRY_LENGTH, Heading, JOURNAL_FILE, place_of, spell};
+use crate::reading::{parse, spells};
 use nb_host::{Host, HostError, PAGE_SIZE};
-use nb_model::Params;
+use nb_model::{MOST_TICKS, Params};
 use std::marker::Model;
 
 /// A started journal, as its counters: its entries stand in the file alone.
@@ -53,6 +57,23 @@ impl Model for Journal {
 }
 
 impl Journal {
+    /// The journal of a heading, without entries.
+    pub(crate) fn begun(heading: Heading) -> Journal
+        requires { IsLawful (log_under heading) }
+        ensures { result ≡ counters_of (log_under heading) }
+    {
+        Journal {
+            params: heading.params,
+            count: heading.count,
+            begin_time: heading.time,
+            entries: 0,
+            ticks: 0,
+            time: heading.time,
+            target: heading.time,
+            gone: heading.gone,
+        }
+    }
+
     /// The parameters of the run.
     pub fn params(&self) -> Params
         ensures value { result ≡ self.now.params }
@@ -134,8 +155,69 @@ impl Journal {
         Ok(journal)
     }
 
+    /// Entry number `index`, from 0 on, as it stands in the file.
+    pub fn entry<H: Host>(&self, host: &mut H, index: u64) -> Result<Entry, JournalError>
+        requires { index < self.now.entries }
+        ensures entry { IfOk result (λ entry. IsTrue H.meaning.tells
+            → IsEntryOf index self.now ((H.meaning.contents host.old).file journal_file) entry) }
+        ensures damaged { (place : ℕ) → result ≡ Err (JournalError.Damaged place)
+            → LacksEntry index self.now place H.meaning.tells
+            ((H.meaning.contents host.old).file journal_file) }
+        ensures ran { Ran H.meaning JournalError.Fault Stays host.old host.new result }
+    {
+        let _entries = self.entries;
+        let place = place_of(index);
+        let mut bytes = [0; ENTRY_LENGTH];
+        let got = host.read_at(JOURNAL_FILE, place, &mut bytes)?;
+        if got < ENTRY_LENGTH {
+            return Err(JournalError::Damaged(place));
+        }
+        let entry = parse(&bytes);
+        if !spells(entry, &bytes) {
+            return Err(JournalError::Damaged(place));
+        }
+        Ok(entry)
+    }
+
+    /// The lawful next entry that these are the bytes of, if there is one.
+    pub(crate) fn next(&self, bytes: &[u8; ENTRY_LENGTH]) -> Option<Entry>
+        ensures some { IfSome result (λ entry. IsNext self.now.count self.now.progress entry
+            × (bytes.now ≡ entry_bytes entry)) }
+        ensures none { result ≡ None → (entry : Entries)
+            → IsNext self.now.count self.now.progress entry → bytes.now ≡ entry_bytes entry → ⊥ }
+    {
+        let _count = self.count;
+        let entry = parse(bytes);
+        if !self.allows(entry) {
+            return None;
+        }
+        if !spells(entry, bytes) {
+            return None;
+        }
+        Some(entry)
+    }
+
+    /// Whether the entry is a lawful next one.
+    fn allows(&self, entry: Entry) -> bool
+        ensures { IsTrue result ↔ IsNext self.now.count self.now.progress entry }
+    {
+        match entry {
+            Entry::Leg(target) => {
+                self.time == self.target
+                    && target != self.time
+                    && self.time.abs_diff(target) <= MOST_TICKS - self.ticks
+            }
+            Entry::Tick(number, gone) => {
+                self.time != self.target
+                    && number == self.ticks + 1
+                    && self.gone <= gone
+                    && gone <= self.count
+            }
+        }
+    }
+
     /// The counters after the entry.
-    fn with(self, entry: Entry) -> Journal
+    pub(crate) fn with(self, entry: Entry) -> Journal
         requires { IsNext self.count self.progress entry }
         ensures counters { result ≡ counters_after entry self }
     {

@@ -1,9 +1,9 @@
 //! Laws of journals. Each is a function that does nothing: its contract is the law.
 
-ghost use Rattle.std.specs.Prelude.{◌≡◌, ℕ, List, Contains, IsTrue};
+ghost use Rattle.std.specs.Prelude.{◌≡◌, ◌⊎◌, ℕ, List, Contains, IsTrue};
 ghost use Rattle.nb_host.specs.Crashes.{AgreesOutside, ImagesFollow};
 ghost use Rattle.nb_host.specs.Meaning.{Leads, IsDurable};
-ghost use Rattle.nb_journal.specs.Form.{Log, IsCleanJournal};
+ghost use Rattle.nb_journal.specs.Form.{Log, IsFresh, IsJournal, IsCleanJournal, IsDamaged};
 ghost use Rattle.nb_journal.specs.Images.{prepared, IsFreshNow, IsPrepared, IsReady, StaysFresh};
 ghost use Rattle.nb_journal.specs.Places.{journal_file, page_length, entry_length, entries_per_page, started_gate, entry_gate};
 
@@ -18,6 +18,27 @@ pub fn law_places()
     ensures entries { (ENTRIES_PER_PAGE ≡ 128) × (entries_per_page ≡ 128) }
     ensures started { (STARTED ≡ 83) × (started_gate ≡ 83) }
     ensures counts { (COUNTS ≡ 71) × (entry_gate ≡ 71) }
+{}
+
+/// A file is the journal of one log at most.
+pub fn law_one_journal()
+    ensures { (a b : Log) (file : List ℕ) → IsJournal a file → IsJournal b file → a ≡ b }
+{}
+
+/// A damaged file is so at one place.
+pub fn law_one_damage()
+    ensures { (a b : ℕ) (file : List ℕ) → IsDamaged a file → IsDamaged b file → a ≡ b }
+{}
+
+/// No journal is damaged.
+pub fn law_not_both()
+    ensures { (log : Log) (place : ℕ) (file : List ℕ) → IsJournal log file → IsDamaged place file → ⊥ }
+{}
+
+/// A file in which no journal is started is neither a journal nor damaged.
+pub fn law_fresh_alone()
+    ensures { (log : Log) (place : ℕ) (file : List ℕ) → IsFresh file
+        → IsJournal log file ⊎ IsDamaged place file → ⊥ }
 {}
 
 /// What the calls that write a journal need of its file stays through calls on other files: that no journal

@@ -10,13 +10,17 @@ mod entry;
 mod error;
 mod finding;
 mod form;
+mod heading;
 mod journal;
 mod laws;
+mod reading;
 mod ready;
 
 pub use entry::Entry;
 pub use error::JournalError;
-pub use finding::Opened;
+pub use finding::{Opened, find};
 pub use journal::Journal;
-pub use laws::{law_kept, law_places, law_ready};
+pub use laws::{
+    law_fresh_alone, law_kept, law_not_both, law_one_damage, law_one_journal, law_places, law_ready,
+};
 pub use ready::{Ready, prepare, start_gate};

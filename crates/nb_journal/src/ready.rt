@@ -99,17 +99,7 @@ pub fn start_gate<H: Host>(host: &mut H, ready: Ready) -> Result<Journal, HostEr
     ensures ran { Ran H.meaning HostError.Fault (AgreesOutside (journal_file ∷ [])) host.old host.new
         result }
 {
-    let heading = ready.heading;
-    let journal = Journal {
-        params: heading.params,
-        count: heading.count,
-        begin_time: heading.time,
-        entries: 0,
-        ticks: 0,
-        time: heading.time,
-        target: heading.time,
-        gone: heading.gone,
-    };
+    let journal = Journal::begun(ready.heading);
     host.sync()?;
     open_gate(host, 0, STARTED)?;
     Ok(journal)
