@@ -198,7 +198,7 @@ impl Journal {
     }
 
     /// Whether the entry is a lawful next one.
-    fn allows(&self, entry: Entry) -> bool
+    pub(crate) fn allows(&self, entry: Entry) -> bool
         ensures { IsTrue result ↔ IsNext self.now.count self.now.progress entry }
     {
         match entry {

@@ -24,3 +24,6 @@ pub use laws::{
     law_fresh_alone, law_kept, law_not_both, law_one_damage, law_one_journal, law_places, law_ready,
 };
 pub use ready::{Ready, prepare, start_gate};
+
+#[cfg(test)]
+mod tests;
