@@ -1,0 +1,11 @@
+mod Texts
+mod Gates
+mod Steps
+mod Laid
+mod Appending
+mod Starting
+mod Spelled
+mod Found
+mod Headings
+mod Indexed
+mod Unique
