@@ -15,6 +15,7 @@ use Rattle.nb_record.specs.Pages.{page_count, read_body_page}
 use Rattle.nb_record.specs.Records.{body_record, body_of, IsBodyRecord}
 use Rattle.nb_record.specs.Order.{by_key, sorted_by}
 use Rattle.nb_record.specs.Cells.{in_cell}
+use Rattle.nb_record.specs.declared.sizes.TheConstants.{BODIES_PER_PAGE}
 use Rattle.nb_record.specs.Tree.{IsTreeOf}
 use Rattle.nb_record.proofs.Callers.{bodies_checked, page_within, place_within, length-sorted_by}
 use Rattle.nb_model.proofs.Facts.{length-filter-le}
@@ -144,19 +145,19 @@ pub record HasBody (bytes : List ℕ) (page i : ℕ) (body : Option Body) : Type
   pub is : body ≡ Some (body_of (body_record i bytes))
 
 pub body_here : (params : Params) (tree : Tree) (files : ℕ → List ℕ) (bodies : List Body) (cells_shown bodies_shown : ℕ → Option (List ℕ)) (from : ℕ) (bytes : List ℕ)
-    → IsTreeOf tree files params bodies → Shows cells_shown bodies_shown tree files → from < length (in_box bodies) → bodies_shown (from / 46) ≡ Some bytes
-    → HasBody bytes (from / 46) (from % 46) (slice_get (sorted_by by_key bodies) from)
+    → IsTreeOf tree files params bodies → Shows cells_shown bodies_shown tree files → from < length (in_box bodies) → bodies_shown (from / BODIES_PER_PAGE) ≡ Some bytes
+    → HasBody bytes (from / BODIES_PER_PAGE) (from % BODIES_PER_PAGE) (slice_get (sorted_by by_key bodies) from)
 body_here params tree files bodies cells_shown bodies_shown from bytes of_tree shows inside shown =
     let order = sorted_by by_key bodies in
     let held = of_tree.ordered in
     let most = length-filter-le (λ (b : Body). not b.out) bodies in
     let within : from < length order = omega (arith, length-sorted_by by_key bodies) in
     let page = page_within (length order) from within in
-    let theirs = shows.body (from / 46) bytes shown in
-    let checked = (bodies_checked (from / 46) (page_of (files tree.bodies) (from / 46))).1 (held.pages (from / 46) page) in
-    let counts = held.counts (from / 46) page in
+    let theirs = shows.body (from / BODIES_PER_PAGE) bytes shown in
+    let checked = (bodies_checked (from / BODIES_PER_PAGE) (page_of (files tree.bodies) (from / BODIES_PER_PAGE))).1 (held.pages (from / BODIES_PER_PAGE) page) in
+    let counts = held.counts (from / BODIES_PER_PAGE) page in
     let place = place_within (length order) from within in
-    subst (λ b. HasBody b (from / 46) (from % 46) (slice_get order from)) (sym theirs)
+    subst (λ b. HasBody b (from / BODIES_PER_PAGE) (from % BODIES_PER_PAGE) (slice_get order from)) (sym theirs)
     (record { checked = checked; within = omega arith; form = held.records from within; is = held.held from within })
 
 module _ (w : Whole) (params : Params) (tree : Tree) (files : ℕ → List ℕ) (bodies : List Body) (of_tree : IsTreeOf tree files params bodies) (front : List Item) where
@@ -208,19 +209,19 @@ lent page (Some bytes) answer read is some = (bytes, refl, (let same = sym is �
 
 pub page_has : (params : Params) (tree : Tree) (files : ℕ → List ℕ) (bodies : List Body) (cells_shown bodies_shown : ℕ → Option (List ℕ)) (from : ℕ) (answer : Option (Result (List ℕ) PageError)) (bytes : List ℕ)
     → IsTreeOf tree files params bodies → Shows cells_shown bodies_shown tree files → from < length (in_box bodies)
-    → answer ≡ option_map (λ b. read_body_page (from / 46) b) (bodies_shown (from / 46)) → answer ≡ Some (Ok bytes)
-    → HasBody bytes (from / 46) (from % 46) (slice_get (sorted_by by_key bodies) from)
+    → answer ≡ option_map (λ b. read_body_page (from / BODIES_PER_PAGE) b) (bodies_shown (from / BODIES_PER_PAGE)) → answer ≡ Some (Ok bytes)
+    → HasBody bytes (from / BODIES_PER_PAGE) (from % BODIES_PER_PAGE) (slice_get (sorted_by by_key bodies) from)
 page_has params tree files bodies cells_shown bodies_shown from answer bytes of_tree shows inside is some =
-    let got = lent (from / 46) (bodies_shown (from / 46)) answer (Ok bytes) is some in
+    let got = lent (from / BODIES_PER_PAGE) (bodies_shown (from / BODIES_PER_PAGE)) answer (Ok bytes) is some in
     let has = body_here params tree files bodies cells_shown bodies_shown from got.0 of_tree shows inside got.1 in
     let same : got.0 ≡ bytes = let both = sym has.checked ∙ got.2 in cc in
-    subst (λ b. HasBody b (from / 46) (from % 46) (slice_get (sorted_by by_key bodies) from)) same has
+    subst (λ b. HasBody b (from / BODIES_PER_PAGE) (from % BODIES_PER_PAGE) (slice_get (sorted_by by_key bodies) from)) same has
 
 pub page_checks : (params : Params) (tree : Tree) (files : ℕ → List ℕ) (bodies : List Body) (cells_shown bodies_shown : ℕ → Option (List ℕ)) (from : ℕ) (answer : Option (Result (List ℕ) PageError)) (error : PageError)
     → IsTreeOf tree files params bodies → Shows cells_shown bodies_shown tree files → from < length (in_box bodies)
-    → answer ≡ option_map (λ b. read_body_page (from / 46) b) (bodies_shown (from / 46)) → answer ≡ Some (Err error) → ⊥
+    → answer ≡ option_map (λ b. read_body_page (from / BODIES_PER_PAGE) b) (bodies_shown (from / BODIES_PER_PAGE)) → answer ≡ Some (Err error) → ⊥
 page_checks params tree files bodies cells_shown bodies_shown from answer error of_tree shows inside is some =
-    let got = lent (from / 46) (bodies_shown (from / 46)) answer (Err error) is some in
+    let got = lent (from / BODIES_PER_PAGE) (bodies_shown (from / BODIES_PER_PAGE)) answer (Err error) is some in
     let has = body_here params tree files bodies cells_shown bodies_shown from got.0 of_tree shows inside got.1 in
     let both = sym has.checked ∙ got.2 in
     cc
