@@ -7,6 +7,7 @@
 mod cell;
 mod distance;
 mod estimate;
+mod inverse_root;
 mod leapfrog;
 mod monopole;
 mod opening;

@@ -4,6 +4,8 @@
 ghost use Rattle.std.specs.Prelude.{◌≡◌, ◌+◌, ◌*◌, ◌^◌, ◌<◌, ◌≤◌};
 ghost use Rattle.nb_model.specs.Root.{integer_root, IsIntegerRoot};
 
+use crate::inverse_root::{checked_root, estimated_root, inverse_root};
+
 /// From which high byte on the table goes: a number is shifted up until its high byte is at least this.
 const FIRST_BYTE: u64 = 64;
 
@@ -130,7 +132,12 @@ pub fn root_of_word(q: u64) -> u64
     }
     // To shift a number by twice as many bits is to shift its root.
     let half_shift = q.leading_zeros() / 2;
-    rooted_64(q << (2 * half_shift)).root >> half_shift
+    let n = q << (2 * half_shift);
+    let estimate = estimated_root(q, n, half_shift, inverse_root(n));
+    if let Some(root) = checked_root(q, estimate) {
+        return root;
+    }
+    rooted_64(n).root >> half_shift
 }
 
 /// One digit more, in base `LAST_BASE`, as in `with_digit`. Nothing has to be left of the number.
