@@ -1,6 +1,6 @@
 //! The files of the current folder. Each call that fails says why, and counts nothing.
 
-ghost use Rattle.std.specs.Prelude.{◌≡◌, ◌≢◌, ℕ, ◌+◌, ◌<◌, ◌≤◌, true, IfOk, OnOk, OnErr, Err, Contains, [], length};
+ghost use Rattle.std.specs.Prelude.{◌≡◌, ◌≢◌, ℕ, ◌+◌, ◌<◌, ◌≤◌, true, false, IfOk, OnOk, OnErr, Err, Contains, [], length};
 
 use crate::names::is_name;
 use crate::open_files::{FileError, OpenFiles, open_to_read};
@@ -24,8 +24,12 @@ pub struct Folder<R> {
 }
 
 impl<R: Files<File = File> + AllocGlobal + Clone + Drop> Folder<R> {
-    /// The folder that the process runs in. It opens nothing yet.
-    pub fn new(rt: R) -> Self {
+    /// The folder that the process runs in. It opens nothing yet, and its first sync takes all of the program's
+    /// files.
+    pub fn new(rt: R) -> Self
+        ensures unsynced { result.unsynced.items ≡ [] }
+        ensures was_synced { result.was_synced ≡ false }
+    {
         let open_files = OpenFiles::new(rt.alloc());
         let unsynced = Vec::new(rt.alloc());
         Folder {
