@@ -6,4 +6,5 @@ pub mod Gravity
 pub mod Leapfrog
 pub mod Legs
 pub mod Valid
+pub mod Bytes
 pub mod Laws
