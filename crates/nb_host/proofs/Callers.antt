@@ -7,9 +7,10 @@ use Rattle.std.proofs.lemmas.Slice.{drop-append-drop}
 use Rattle.std.proofs.lemmas.List.{take_at, get_or-take, get_or-drop, ext_get_or}
 use Rattle.std.proofs.lemmas.List.Elements.{Contains-append_left, Contains-append_right}
 use Rattle.nb_host.specs.Crashes.{CrashModel, ImagesFollow, IsStretch, Stays, AgreesOutside, ChangesOnly, EverySince, CountsOnlyNow, CountsEarlier}
+use Rattle.nb_host.specs.Counts.{next_count}
 use Rattle.nb_host.specs.Faults.{Rose}
 use Rattle.nb_host.specs.Image.{Image, overwritten, readable, IsTorn, IsPartlyCut, FileBecomes, Says}
-use Rattle.nb_host.specs.Meaning.{HostModel, Leads, Over, Ran, Spoke, IsDurable, IsDurableFile, untold_host}
+use Rattle.nb_host.specs.Meaning.{HostModel, Leads, Over, Stopped, Counts, Ran, RanSyncing, Spoke, Tally, IsDurable, IsDurableFile, untold_host}
 use Rattle.nb_host.specs.Page.{HasPage, page_of, page_start, same_page}
 use Rattle.nb_host.specs.declared.host.Channel.{Channel}
 use Rattle.nb_host.specs.declared.host.HostError.{HostError}
@@ -443,6 +444,22 @@ leads_before {S = S} itself first second =
     leads_then first second (λ start image same. subst (λ (i : Image). S start i) (sym same) (itself start))
     (λ start between image same step. subst (λ (i : Image). S i image) same step)
 
+-- Calls after a sync: each image is one before it, or follows from what read at the sync.
+pub leads_synced : {H : Type 0} {m : HostModel H} {old middle new : H} {S T U : Image → Image → Type 0}
+    → Leads m S old middle → IsDurable m middle → Leads m T middle new
+    → ((start image : Image) → S start image → U start image)
+    → ((start image : Image) → IsTrue m.tells → S start (m.contents middle) → T (m.contents middle) image → U start image)
+    → Leads m U old new
+leads_synced {m = m} {old = old} {middle = middle} {new = new} {S = S} {T = T} first durable second alone both = record {
+  contents = λ tells.
+      both (m.contents old) (m.contents new) tells (first.contents tells) (second.contents tells);
+  images = goes_on first.images second.images alone
+      (λ start between image honest one is two.
+      let same = durable between honest is in
+      both start image (m.tells_if_honest honest) (subst (λ (i : Image). S start i) same one)
+      (subst (λ (i : Image). T i image) same two));
+}
+
 -- nothing, and nothing again
 pub stays_both : {H : Type 0} {m : HostModel H} {old middle new : H} → Leads m Stays old middle
     → Leads m Stays middle new → Leads m Stays old new
@@ -462,6 +479,142 @@ pub stays_contents : {H : Type 0} {m : HostModel H} {old new : H} → Leads m St
     → m.contents new ≡ m.contents old
 stays_contents {m = m} {old = old} {new = new} leads = contents_stay m old new leads.contents
 
+-- What calls owe to the counts, one after the other.
+
+-- an answer that is Ok isn't a refusal
+pub ok_is_no_error : {T E : Type 0} {result : Result T E} {error : E} → IsOk result → result ≢ Err error
+ok_is_no_error {T = T} {E = E} ok same =
+    let never = subst (λ (r : Result T E). IsOk r) same ok in absurd (search rules)
+
+-- calls that came to an end at a fault, after others that met none
+pub stopped_after : {H : Type 0} {m : HostModel H} {old middle new : H} → m.faults middle ≡ m.faults old
+    → Stopped m middle new → Stopped m old new
+stopped_after same stopped = record { count = stopped.count ∙ ap next_count same; last = stopped.last }
+
+-- no call yet
+pub counts_none : {H T E : Type 0} (m : HostModel H) {fault : E} (host : H) {result : Result T E}
+    → result ≢ Err fault → Counts m fault host host result
+counts_none m host never = record {
+  count = omega arith;
+  rose = λ err. absurd (never err);
+  spared = λ _. refl;
+  tally = refl;
+}
+
+-- calls after others that met no fault, said nothing and synced nothing
+pub counts_after : {H T E : Type 0} {m : HostModel H} {fault : E} {old middle new : H} {result : Result T E}
+    → m.faults middle ≡ m.faults old → m.tally middle ≡ m.tally old → Counts m fault middle new result
+    → Counts m fault old new result
+counts_after {m = m} {old = old} {middle = middle} {new = new} same tally counts = record {
+  count = subst (λ n. n ≤ m.faults new) same counts.count;
+  rose = λ err. stopped_after same (counts.rose err);
+  spared = λ never. counts.spared never ∙ same;
+  tally = counts.tally ∙ tally;
+}
+
+-- another answer, which stands for a fault exactly where this one does
+pub counts_as : {H T U E F : Type 0} {m : HostModel H} {fault : E} {other_fault : F} {old new : H}
+    {result : Result T E} {other : Result U F} → Counts m fault old new result
+    → (other ≡ Err other_fault → result ≡ Err fault) → (result ≡ Err fault → other ≡ Err other_fault)
+    → Counts m other_fault old new other
+counts_as counts there back = record {
+  count = counts.count;
+  rose = λ err. counts.rose (there err);
+  spared = λ never. counts.spared (λ err. never (back err));
+  tally = counts.tally;
+}
+
+pub counts_of_ran : {H T E : Type 0} {m : HostModel H} {fault : E} {by : Image → Image → Type 0} {old new : H}
+    {result : Result T E} → Ran m fault by old new result → Counts m fault old new result
+counts_of_ran ran = record { count = ran.count; rose = ran.rose; spared = ran.spared; tally = ran.tally }
+
+-- where calls lead, and what they owe to the counts
+pub ran_by : {H T E : Type 0} {m : HostModel H} {fault : E} {by : Image → Image → Type 0} {old new : H}
+    {result : Result T E} → Leads m by old new → Counts m fault old new result → Ran m fault by old new result
+ran_by leads counts = record {
+  leads = leads;
+  count = counts.count;
+  rose = counts.rose;
+  spared = counts.spared;
+  tally = counts.tally;
+}
+
+-- The same where some of the calls are syncs.
+
+pub syncing_none : {H T E : Type 0} {m : HostModel H} {fault : E} {by : Image → Image → Type 0} {old new : H}
+    {result : Result T E} → Ran m fault by old new result → RanSyncing m 0 fault by old new result
+syncing_none {m = m} ran = record {
+  leads = ran.leads;
+  count = ran.count;
+  rose = ran.rose;
+  spared = ran.spared;
+  refused = ap (λ (t : Tally). t.refused_says) ran.tally;
+  synced = λ _ _. let same = ap (λ (t : Tally). t.syncs) ran.tally in omega arith;
+  at_most = λ _. let same = ap (λ (t : Tally). t.syncs) ran.tally in omega arith;
+}
+
+-- calls after others that answered Ok, with where both lead
+pub syncing_then : {H T U E F : Type 0} {m : HostModel H} {first second : ℕ} {fault : E} {other_fault : F}
+    {one two by : Image → Image → Type 0} {old middle new : H} {result : Result T E} {other : Result U F}
+    → IsOk result → RanSyncing m first fault one old middle result
+    → RanSyncing m second other_fault two middle new other → Leads m by old new
+    → RanSyncing m (first + second) other_fault by old new other
+syncing_then {m = m} {old = old} {middle = middle} {new = new} {result = result} ok before after leads =
+    let same = before.spared (ok_is_no_error ok) in
+    record {
+      leads = leads;
+      count = subst (λ n. n ≤ m.faults new) same after.count;
+      rose = λ err. stopped_after same (after.rose err);
+      spared = λ never. after.spared never ∙ same;
+      refused = after.refused ∙ before.refused;
+      synced = λ tells fine. omega (arith, before.synced tells ok, after.synced tells fine);
+      at_most = λ tells. omega (arith, before.synced tells ok, after.at_most tells);
+    }
+
+-- another answer, which stands for a fault exactly where this one does, and isn't Ok where this one isn't
+pub syncing_as : {H T U E F : Type 0} {m : HostModel H} {syncs : ℕ} {fault : E} {other_fault : F}
+    {by : Image → Image → Type 0} {old new : H} {result : Result T E} {other : Result U F}
+    → RanSyncing m syncs fault by old new result → (other ≡ Err other_fault → result ≡ Err fault)
+    → (result ≡ Err fault → other ≡ Err other_fault) → (IsOk other → IsOk result)
+    → RanSyncing m syncs other_fault by old new other
+syncing_as ran there back fine = record {
+  leads = ran.leads;
+  count = ran.count;
+  rose = λ err. ran.rose (there err);
+  spared = λ never. ran.spared (λ err. never (back err));
+  refused = ran.refused;
+  synced = λ tells ok. ran.synced tells (fine ok);
+  at_most = ran.at_most;
+}
+
+-- fewer syncs than there may be, where the calls were refused
+pub syncing_refused : {H T E : Type 0} {m : HostModel H} {fewer more : ℕ} {fault : E} {by : Image → Image → Type 0}
+    {old new : H} {result : Result T E} → (IsOk result → ⊥) → fewer ≤ more
+    → RanSyncing m fewer fault by old new result → RanSyncing m more fault by old new result
+syncing_refused never less ran = record {
+  leads = ran.leads;
+  count = ran.count;
+  rose = ran.rose;
+  spared = ran.spared;
+  refused = ran.refused;
+  synced = λ _ ok. absurd (never ok);
+  at_most = λ tells. omega (arith, ran.at_most tells, less);
+}
+
+-- the step that calls lead by, weakened
+pub syncing_by : {H T E : Type 0} {m : HostModel H} {syncs : ℕ} {fault : E} {one by : Image → Image → Type 0}
+    {old new : H} {result : Result T E} → RanSyncing m syncs fault one old new result → Leads m by old new
+    → RanSyncing m syncs fault by old new result
+syncing_by ran leads = record {
+  leads = leads;
+  count = ran.count;
+  rose = ran.rose;
+  spared = ran.spared;
+  refused = ran.refused;
+  synced = ran.synced;
+  at_most = ran.at_most;
+}
+
 -- Hosts that tell nothing.
 
 pub untold_leads : {H : Type 0} {faults : H → ℕ} {by : Image → Image → Type 0} {old new : H}
@@ -472,14 +625,33 @@ untold_leads = record {
 }
 
 pub untold_ran : {H T E : Type 0} {faults : H → ℕ} {fault : E} {by : Image → Image → Type 0} {old new : H}
-    {result : Result T E} → faults old ≤ faults new → (result ≡ Err fault → Rose (faults old) (faults new))
-    → (IsOk result → faults new ≡ faults old) → Ran (untold_host faults) fault by old new result
-untold_ran count rose spared =
-    record { leads = untold_leads; count = count; rose = rose; spared = spared; refused = refl }
+    {result : Result T E} → faults old ≤ faults new → (result ≡ Err fault → faults new ≡ next_count (faults old))
+    → (result ≢ Err fault → faults new ≡ faults old) → Ran (untold_host faults) fault by old new result
+untold_ran count rose spared = record {
+  leads = untold_leads;
+  count = count;
+  rose = λ err. record { count = rose err; last = refl };
+  spared = spared;
+  tally = refl;
+}
+
+pub untold_syncing : {H T E : Type 0} {faults : H → ℕ} {fault : E} {by : Image → Image → Type 0} {syncs : ℕ}
+    {old new : H} {result : Result T E} → faults old ≤ faults new
+    → (result ≡ Err fault → faults new ≡ next_count (faults old))
+    → (result ≢ Err fault → faults new ≡ faults old) → RanSyncing (untold_host faults) syncs fault by old new result
+untold_syncing count rose spared = record {
+  leads = untold_leads;
+  count = count;
+  rose = λ err. record { count = rose err; last = refl };
+  spared = spared;
+  refused = refl;
+  synced = λ tells. absurd (search rules);
+  at_most = λ tells. absurd (search rules);
+}
 
 pub untold_spoke : {H : Type 0} {faults : H → ℕ} {channel : Channel} {bytes : List ℕ} {old new : H}
     {result : Result (Unit {0}) HostError} → faults old ≤ faults new
-    → (result ≡ Err Fault → Rose (faults old) (faults new)) → (IsOk result → faults new ≡ faults old)
+    → (result ≡ Err Fault → faults new ≡ next_count (faults old)) → (result ≢ Err Fault → faults new ≡ faults old)
     → Spoke (untold_host faults) channel bytes old new result
 untold_spoke {faults = faults} {channel = channel} {bytes = bytes} {old = old} {new = new} {result = result} count rose spared = record {
   said = elim result as (λ (r : Result (Unit {0}) HostError). OnOk r (Over (untold_host faults) (Says channel bytes) old new))
@@ -487,9 +659,10 @@ untold_spoke {faults = faults} {channel = channel} {bytes = bytes} {old = old} {
   leads = untold_leads;
   nothing = λ _. untold_leads;
   count = count;
-  rose = rose;
+  rose = λ err. record { count = rose err; last = refl };
   spared = spared;
   refused = λ tells. absurd (search rules);
+  syncs = refl;
 }
 
 -- Names of pages.

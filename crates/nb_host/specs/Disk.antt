@@ -118,6 +118,16 @@ abbrev pub disk_after : List Event → Disk
 disk_after [] = record { file = λ _. synced_file []; said = λ _. [] }
 disk_after (event ∷ earlier) = after event (disk_after earlier)
 
+-- how many of the calls were syncs
+abbrev pub syncs_in : List Event → ℕ
+syncs_in [] = 0
+syncs_in (Wrote file at bytes done ∷ earlier) = syncs_in earlier
+syncs_in (Cut file len ∷ earlier) = syncs_in earlier
+syncs_in (Synced ∷ earlier) = syncs_in earlier + 1
+syncs_in (Said channel bytes done ∷ earlier) = syncs_in earlier
+syncs_in (Placed file bytes ∷ earlier) = syncs_in earlier
+syncs_in (Crashed outcome ∷ earlier) = syncs_in earlier
+
 -- A call in progress, with so many of its bytes done. It counts as begun, and any number of its bytes may be done.
 abbrev pub in_progress : ℕ → Event → Event
 in_progress done (Wrote file at bytes _) = Wrote file at bytes done

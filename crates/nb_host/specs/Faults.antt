@@ -1,5 +1,6 @@
 -- When a host may answer Fault.
 use Rattle.std.specs.Prelude.{◌≡◌, ◌≢◌, ℕ, ◌+◌, ◌-◌, ◌^◌, ◌≤◌, min, Result, Err, IsOk, IsErr}
+use Rattle.nb_host.specs.Counts.{next_count}
 use Rattle.nb_host.specs.declared.host.HostError.{HostError}
 use Rattle.nb_host.specs.declared.host.HostError.TheVariants.{Fault}
 use Rattle.nb_host.specs.declared.host.Channel.{Channel}
@@ -8,11 +9,11 @@ use Rattle.nb_host.specs.declared.host.Channel.{Channel}
 abbrev pub Rose : ℕ → ℕ → Type 0
 Rose before now = min (before + 1) (2 ^ 64 - 1) ≤ now
 
--- The count of faults never falls, a call answers Fault only where it rose, and Ok only where it didn't.
+-- A call that answers Fault counts as one, and no other does.
 pub record CountsFault {T : Type 0} (before now : ℕ) (result : Result T HostError) : Type 0 where
   pub no_less : before ≤ now
-  pub rose : result ≡ Err Fault → Rose before now
-  pub spared : IsOk result → now ≡ before
+  pub rose : result ≡ Err Fault → now ≡ next_count before
+  pub spared : result ≢ Err Fault → now ≡ before
 
 -- The count of refused says on one channel rises where a say on it is refused, and no other count changes.
 pub record CountsRefusedSay {T : Type 0} (channel : Channel) (before now : Channel → ℕ) (result : Result T HostError) : Type 0 where

@@ -1,12 +1,20 @@
 -- What a host means, and what each of its calls owes by that.
-use Rattle.std.specs.Prelude.{◌≡◌, ℕ, ◌≤◌, Bool, false, IsTrue, List, [], Result, Err, IsOk, OnOk}
+use Rattle.std.specs.Prelude.{◌≡◌, ◌≢◌, ℕ, ◌+◌, ◌≤◌, Bool, true, false, IsTrue, List, [], Result, Err, IsOk, OnOk}
 use Rattle.std.proofs.Common.{refl, rules}
 use Rattle.nb_host.specs.Crashes.{CrashModel, ImagesFollow, Stays, LeavesContents, LeavesSaid, CountsNow, CountsOnlyNow, CountsEarlier}
-use Rattle.nb_host.specs.Faults.{Rose, CountsRefusedSay}
+use Rattle.nb_host.specs.Counts.{next_count}
+use Rattle.nb_host.specs.Faults.{CountsRefusedSay}
 use Rattle.nb_host.specs.Image.{Image, Says, SaysPart}
 use Rattle.nb_host.specs.declared.host.Channel.{Channel}
 use Rattle.nb_host.specs.declared.host.HostError.{HostError}
 use Rattle.nb_host.specs.declared.host.HostError.TheVariants.{Fault, NoMemory}
+
+-- What a host counts beside its faults.
+pub record Tally : Type 0 where
+  -- how many calls of `say` on each channel were refused
+  pub refused_says : Channel → ℕ
+  -- how many calls of `sync` succeeded
+  pub syncs : ℕ
 
 -- The meaning of a type of hosts, with the laws of every host.
 pub record HostModel (H : Type 0) : Type 1 where
@@ -15,10 +23,12 @@ pub record HostModel (H : Type 0) : Type 1 where
   pub tells : Bool
   -- what the files hold, as a read sees it, and what was said
   pub contents : H → Image
-  -- a count of faults, which never falls and rises wherever a call answers Fault
+  -- how many calls answered Fault, a count that stands still at 2 ^ 64 - 1
   pub faults : H → ℕ
-  -- how many calls of `say` on each channel were refused
-  pub refused_says : H → Channel → ℕ
+  -- whether the last call answered Fault, so that none was made after it
+  pub halted : H → Bool
+  -- what else it counts
+  pub tally : H → Tally
   -- What a crash may leave of the files and of what was said, now and since each moment. It is known of an honest host
   -- alone: one that returns what was written, and whose syncs that succeed make it durable.
   pub crashes : CrashModel H
@@ -57,21 +67,37 @@ abbrev pub IsDurableFile : {H : Type 0} → HostModel H → ℕ → H → Type 0
 IsDurableFile m number host = (image : Image) → IsTrue m.crashes.is_honest → m.crashes.may_leave host image
     → image.file number ≡ (m.contents host).file number
 
--- What calls owe to the counts: the count of faults never falls, the answer that stands for a fault comes only where it
--- rose, an Ok only where it didn't, and no say was refused.
+-- Calls came to an end at a fault: one of them answered Fault, the last one. Nothing was tried again, and nothing went on.
+pub record Stopped {H : Type 0} (m : HostModel H) (old new : H) : Type 0 where
+  pub count : m.faults new ≡ next_count (m.faults old)
+  pub last : IsTrue (m.halted new)
+
+-- What calls owe to the counts: the answer that stands for a fault comes where they came to an end at one, and every other
+-- answer where there was none. No say was refused, and nothing was synced.
 pub record Counts {H T E : Type 0} (m : HostModel H) (fault : E) (old new : H) (result : Result T E) : Type 0 where
   pub count : m.faults old ≤ m.faults new
-  pub rose : result ≡ Err fault → Rose (m.faults old) (m.faults new)
-  pub spared : IsOk result → m.faults new ≡ m.faults old
-  pub refused : m.refused_says new ≡ m.refused_says old
+  pub rose : result ≡ Err fault → Stopped m old new
+  pub spared : result ≢ Err fault → m.faults new ≡ m.faults old
+  pub tally : m.tally new ≡ m.tally old
 
--- The frame of calls that say nothing: where they lead, and what they owe to the counts.
+-- The frame of calls that say nothing and sync nothing: where they lead, and what they owe to the counts.
 pub record Ran {H T E : Type 0} (m : HostModel H) (fault : E) (by : Image → Image → Type 0) (old new : H) (result : Result T E) : Type 0 where
   pub leads : Leads m by old new
   pub count : m.faults old ≤ m.faults new
-  pub rose : result ≡ Err fault → Rose (m.faults old) (m.faults new)
-  pub spared : IsOk result → m.faults new ≡ m.faults old
-  pub refused : m.refused_says new ≡ m.refused_says old
+  pub rose : result ≡ Err fault → Stopped m old new
+  pub spared : result ≢ Err fault → m.faults new ≡ m.faults old
+  pub tally : m.tally new ≡ m.tally old
+
+-- The frame of calls that say nothing and sync: so many times where they succeed, and no more often where they don't. How
+-- often is known of a host that tells.
+pub record RanSyncing {H T E : Type 0} (m : HostModel H) (syncs : ℕ) (fault : E) (by : Image → Image → Type 0) (old new : H) (result : Result T E) : Type 0 where
+  pub leads : Leads m by old new
+  pub count : m.faults old ≤ m.faults new
+  pub rose : result ≡ Err fault → Stopped m old new
+  pub spared : result ≢ Err fault → m.faults new ≡ m.faults old
+  pub refused : (m.tally new).refused_says ≡ (m.tally old).refused_says
+  pub synced : IsTrue m.tells → IsOk result → (m.tally new).syncs ≡ (m.tally old).syncs + syncs
+  pub at_most : IsTrue m.tells → (m.tally new).syncs ≤ (m.tally old).syncs + syncs
 
 -- A say: at Ok all the bytes were said, at NoMemory none, after Fault perhaps the first of them. It counts where it is
 -- refused.
@@ -80,9 +106,11 @@ pub record Spoke {H : Type 0} (m : HostModel H) (channel : Channel) (bytes : Lis
   pub leads : Leads m (SaysPart channel bytes) old new
   pub nothing : result ≡ Err NoMemory → Leads m Stays old new
   pub count : m.faults old ≤ m.faults new
-  pub rose : result ≡ Err Fault → Rose (m.faults old) (m.faults new)
-  pub spared : IsOk result → m.faults new ≡ m.faults old
-  pub refused : IsTrue m.tells → CountsRefusedSay channel (m.refused_says old) (m.refused_says new) result
+  pub rose : result ≡ Err Fault → Stopped m old new
+  pub spared : result ≢ Err Fault → m.faults new ≡ m.faults old
+  pub refused : IsTrue m.tells
+      → CountsRefusedSay channel (m.tally old).refused_says (m.tally new).refused_says result
+  pub syncs : (m.tally new).syncs ≡ (m.tally old).syncs
 
 -- No host that tells nothing is asked for more.
 pub asked_of_none : {A : Type 0} → IsTrue false → A
@@ -94,7 +122,8 @@ untold_host faults = record {
   tells = false;
   contents = λ _. record { file = λ _. []; said = λ _. [] };
   faults = faults;
-  refused_says = λ _ _. 0;
+  halted = λ _. true;
+  tally = λ _. record { refused_says = λ _. 0; syncs = 0 };
   crashes = record { is_honest = false; may_leave = λ _ _. ⊥; moment = λ _. 0; left_since = λ _ _ _. ⊥ };
   tells_if_honest = λ honest. honest;
   untold = λ _ _ _. refl;

@@ -1,5 +1,5 @@
 -- What a host in memory shows, and what each of its calls does to its counts.
-use Rattle.std.specs.Prelude.{◌≡◌, ◌≢◌, ℕ, true, false, List, Result, Err, IsErr}
+use Rattle.std.specs.Prelude.{◌≡◌, ◌≢◌, ℕ, Bool, true, false, List, Result, Err, IsErr}
 use Rattle.std.proofs.Common.{rules}
 use Rattle.nb_host.specs.declared.host.HostError.{HostError}
 use Rattle.nb_host.specs.declared.host.HostError.TheVariants.{Fault}
@@ -11,10 +11,10 @@ use Rattle.nb_host.specs.declared.memory.MemoryHost.{MemoryHost}
 use Rattle.nb_host.specs.Channels.{refused_on}
 use Rattle.nb_host.specs.Counts.{next_count}
 use Rattle.nb_host.specs.Crashes.{CrashModel}
-use Rattle.nb_host.specs.Disk.{Disk, Event, contents_on, crash_model_by, disk_after}
+use Rattle.nb_host.specs.Disk.{Disk, Event, contents_on, crash_model_by, disk_after, syncs_in}
 use Rattle.nb_host.specs.DiskLaws.{contents_is_image, image_counts, counts_only_now, counts_earlier}
 use Rattle.nb_host.specs.Image.{Image}
-use Rattle.nb_host.specs.Meaning.{HostModel}
+use Rattle.nb_host.specs.Meaning.{HostModel, Tally}
 use Rattle.nb_host.specs.Plan.{IsDueBy, burnt}
 use Rattle.nb_host.specs.Record.{recorded}
 
@@ -53,9 +53,21 @@ reads_of host = host.reads
 abbrev pub faults_of : MemoryHost → ℕ
 faults_of host = host.plan.faults
 
+-- whether the last host call answered Fault
+abbrev pub halted_of : MemoryHost → Bool
+halted_of host = host.plan.halted
+
 -- how many says on each channel were refused
 abbrev pub refused_of : MemoryHost → Channel → ℕ
 refused_of host = refused_on host.refusals
+
+-- how many syncs succeeded
+abbrev pub syncs_of : MemoryHost → ℕ
+syncs_of host = syncs_in (events_of host)
+
+-- what the host counts beside its faults
+abbrev pub tally_of : MemoryHost → Tally
+tally_of host = record { refused_says = refused_of host; syncs = syncs_of host }
 
 -- a host that tells isn't one that tells nothing
 pub tells_nothing : {A : Type 0} → true ≡ false → A
@@ -67,7 +79,8 @@ meaning_of = record {
   tells = true;
   contents = contents_of;
   faults = faults_of;
-  refused_says = refused_of;
+  halted = halted_of;
+  tally = tally_of;
   crashes = crashes_of;
   tells_if_honest = λ honest. honest;
   untold = λ never _ _. tells_nothing never;
@@ -110,12 +123,15 @@ pub record CountsCall {T : Type 0} (old new : MemoryHost) (result : Result T Hos
   pub only_due : result ≡ Err Fault → IsDue old
   pub faulted : result ≡ Err Fault → faults_of new ≡ next_count (faults_of old)
   pub spared : result ≢ Err Fault → faults_of new ≡ faults_of old
+  pub halted : result ≡ Err Fault → halted_of new ≡ true
+  pub goes_on : result ≢ Err Fault → halted_of new ≡ false
 
 -- no count changes
 pub record KeepsCounts (old new : MemoryHost) : Type 0 where
   pub calls : calls_of new ≡ calls_of old
   pub reads : reads_of new ≡ reads_of old
   pub faults : faults_of new ≡ faults_of old
+  pub halted : halted_of new ≡ halted_of old
   pub refused : refused_of new ≡ refused_of old
 
 -- what is set to fail stays set

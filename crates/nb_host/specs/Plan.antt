@@ -42,6 +42,12 @@ answer_of Passes = Ok tt
 answer_of HalfDone = Err Fault
 answer_of Nothing = Err Fault
 
+-- whether it fails
+abbrev pub fails : Fate → Bool
+fails Passes = false
+fails HalfDone = true
+fails Nothing = true
+
 -- the count of faults after it
 abbrev pub faults_after : Fate → ℕ → ℕ
 faults_after Passes faults = faults

@@ -14,7 +14,7 @@ pub const PLACE_LIMIT: u64 = 1 << 62;
 /// Why a call of the host was refused.
 #[derive(Clone, Copy, PartialEq, Eq, Debug)]
 pub enum HostError {
-    /// The device failed. The host's count of faults rose.
+    /// The device failed. The host's count of faults is one more.
     Fault,
     /// Memory is wanting. Nothing was done.
     NoMemory,
@@ -55,9 +55,8 @@ pub enum Channel {
 
 /// Files by their numbers, and two channels.
 ///
-/// Each call may be refused. At NoMemory no file and no channel changed. Fault comes only where the host's
-/// count of faults rose in that call, Ok only where it didn't, and the clauses of the call say what it may
-/// have left.
+/// Each call may be refused. At NoMemory no file and no channel changed. At Fault the host's count of faults
+/// is one more, at any other answer it stays, and the clauses of the call say what it may have left.
 pub trait Host {
     /// What a host of this type tells, counts and may leave after a crash, with the laws of that. Whether it
     /// tells its contents, and whether it is honest, is a fact of the type.
@@ -65,7 +64,7 @@ pub trait Host {
 
     ghost use Rattle.nb_host.specs.Crashes.{Stays};
     ghost use Rattle.nb_host.specs.Image.{IsOverwritten, IsCut, IsTorn, IsPartlyCut, FileBecomes, readable};
-    ghost use Rattle.nb_host.specs.Meaning.{HostModel, IsDurable, Leads, Over, Ran, Spoke};
+    ghost use Rattle.nb_host.specs.Meaning.{HostModel, IsDurable, Leads, Over, Ran, RanSyncing, Spoke};
 
     /// The file's length in bytes: 0 for one that isn't there.
     fn len(&mut self, file: u64) -> Result<u64, HostError>
@@ -110,7 +109,7 @@ pub trait Host {
     /// Makes all files durable: what they hold now outlasts a crash.
     fn sync(&mut self) -> Result<(), HostError>
         ensures durable { OnOk result (IsDurable meaning self.new) }
-        ensures ran { Ran meaning HostError.Fault Stays self.old self.new result };
+        ensures ran { RanSyncing meaning 1 HostError.Fault Stays self.old self.new result };
 
     /// Says the bytes on the channel. After Fault the first of them may have been said.
     fn say(&mut self, channel: Channel, bytes: &[u8]) -> Result<(), HostError>

@@ -7,7 +7,7 @@ ghost use Rattle.nb_host.specs.Disk.{Wrote, Cut, Synced, Said, Placed, Crashed, 
 ghost use Rattle.nb_host.specs.Faults.{CountsFault};
 ghost use Rattle.nb_host.specs.Plan.{part_by};
 ghost use Rattle.nb_host.specs.Image.{IsOverwritten, IsTorn, IsCut, IsPartlyCut, FileBecomes, Says, readable};
-ghost use Rattle.nb_host.specs.Meaning.{IsDurable, IsDurableFile, Leads, Ran, Spoke};
+ghost use Rattle.nb_host.specs.Meaning.{IsDurable, IsDurableFile, Leads, Ran, RanSyncing, Spoke};
 ghost use Rattle.nb_host.specs.declared.fuse.Fuse.TheVariants.{Unset, Burning};
 ghost use Rattle.nb_host.specs.declared.host.HostError.TheVariants.{Fault};
 ghost use Rattle.nb_host.specs.declared.host.Channel.{Channel};
@@ -297,7 +297,7 @@ impl Host for MemoryHost {
     }
 
     fn sync(&mut self) -> Result<(), HostError>
-        ensures ran { Ran meaning_of HostError.Fault Stays self.old self.new result }
+        ensures ran { RanSyncing meaning_of 1 HostError.Fault Stays self.old self.new result }
         ensures durable { OnOk result (IsDurable meaning_of self.new) }
         ensures ok { OnOk result (events_of self.new ≡ Synced ∷ events_of self.old) }
         ensures nothing { OnErr result (events_of self.new ≡ events_of self.old) }

@@ -1,9 +1,9 @@
 //! Which host calls fail, and how many were made and failed.
 
-ghost use Rattle.std.specs.Prelude.{◌≡◌, ◌+◌, ◌↔◌, [], Contains, IsTrue, OnOk, OnErr};
+ghost use Rattle.std.specs.Prelude.{◌≡◌, ◌+◌, ◌↔◌, ◌||◌, [], true, false, Contains, IsTrue, OnOk, OnErr};
 ghost use Rattle.nb_host.specs.Counts.{next_count};
 ghost use Rattle.nb_host.specs.Faults.{CountsFault};
-ghost use Rattle.nb_host.specs.Plan.{burnt, IsDueBy, answer_of, faults_after};
+ghost use Rattle.nb_host.specs.Plan.{burnt, IsDueBy, answer_of, fails, faults_after};
 ghost use Rattle.nb_host.specs.declared.fate.Fate.TheVariants.{Passes, Nothing};
 ghost use Rattle.nb_host.specs.declared.fuse.Fuse.TheVariants.{Unset, Burning, Blown};
 
@@ -25,6 +25,8 @@ pub struct Plan {
     fuse: Fuse,
     calls: u64,
     faults: u64,
+    /// Whether the last call answered Fault.
+    halted: bool,
 }
 
 impl Plan {
@@ -35,6 +37,7 @@ impl Plan {
         ensures fuse { result.fuse ≡ Unset }
         ensures calls { result.calls ≡ 0 }
         ensures faults { result.faults ≡ 0 }
+        ensures halted { result.halted ≡ false }
     {
         Plan {
             alloc,
@@ -43,6 +46,7 @@ impl Plan {
             fuse: Fuse::Unset,
             calls: 0,
             faults: 0,
+            halted: false,
         }
     }
 
@@ -67,6 +71,7 @@ impl Plan {
         ensures fuse { self.new.fuse ≡ self.old.fuse }
         ensures calls { self.new.calls ≡ self.old.calls }
         ensures faults { self.new.faults ≡ self.old.faults }
+        ensures halted { self.new.halted ≡ self.old.halted }
         ensures err { OnErr result (self.new ≡ self.old) }
     {
         self.failing = calls.to_vec(self.alloc)?;
@@ -88,6 +93,7 @@ impl Plan {
         ensures fuse { self.new.fuse ≡ Unset }
         ensures calls { self.new.calls ≡ self.old.calls }
         ensures faults { self.new.faults ≡ self.old.faults }
+        ensures halted { self.new.halted ≡ self.old.halted }
     {
         self.failing = Vec::new(self.alloc);
         self.since = 0;
@@ -102,6 +108,7 @@ impl Plan {
           since = next_count self.old.since;
           fuse = burnt self.old.fuse;
           calls = next_count self.old.calls;
+          halted = false;
         } }
     {
         let named = has_next(&self.failing, self.since);
@@ -109,6 +116,7 @@ impl Plan {
         self.since = self.since.saturating_add(1);
         self.fuse = self.fuse.next();
         self.calls = self.calls.saturating_add(1);
+        self.halted = false;
         fate
     }
 
@@ -116,12 +124,17 @@ impl Plan {
     pub fn end(&mut self, fate: Fate) -> Result<(), HostError>
         ensures answer { result ≡ answer_of fate }
         ensures fault { CountsFault self.old.faults self.new.faults result }
-        ensures counts { self.new ≡ record self.old { faults = faults_after fate self.old.faults } }
+        ensures halted { result ≡ Err HostError.Fault → self.new.halted ≡ true }
+        ensures counts { self.new ≡ record self.old {
+          faults = faults_after fate self.old.faults;
+          halted = fails fate || self.old.halted;
+        } }
     {
         match fate {
             Fate::Passes => Ok(()),
             Fate::HalfDone | Fate::Nothing => {
                 self.faults = self.faults.saturating_add(1);
+                self.halted = true;
                 Err(HostError::Fault)
             }
         }

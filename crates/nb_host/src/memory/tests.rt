@@ -1,4 +1,8 @@
-//! What a host in memory does at each of its calls, and where it is told to fail.
+//! What a host in memory does at each of its calls, and where it is told to fail. Each row of a table goes
+//! through a small function, which says whether all was as it is to be.
+
+ghost use Rattle.std.specs.Prelude.{◌+◌, ◌<◌, ◌≤◌, length};
+ghost use Rattle.nb_host.specs.declared.host.TheConstants.{LAST_FILE, PLACE_LIMIT};
 
 use super::*;
 use std::test::Fail;
@@ -9,6 +13,23 @@ fn with_bytes(alloc: Global, bytes: &[u8]) -> Result<MemoryHost, NoMemory> {
     let mut host = MemoryHost::new(alloc);
     host.with_file(FILE, bytes)?;
     Ok(host)
+}
+
+// A write over `abc`, with the calls of these numbers set to fail, leaves the file so.
+fn write_leaves(
+    alloc: Global,
+    at: u64,
+    bytes: &[u8],
+    failing: &[u64],
+    want: &[u8],
+) -> Result<bool, NoMemory>
+    requires { at + length bytes.now < PLACE_LIMIT }
+{
+    let mut host = with_bytes(alloc, b"abc")?;
+    host.fail_at(failing)?;
+    let passes = host.write_at(FILE, at, bytes).is_ok();
+    let counted = host.faults() == failing.len() as u64;
+    Ok(counted && passes == failing.is_empty() && host.bytes(FILE) == want)
 }
 
 #[test]
@@ -26,74 +47,88 @@ fn writes(rt: HostRuntime) -> Result<(), Fail> {
     ];
     for (at, bytes, whole, half) in table {
         assert!(rt; at < 10 && bytes.len() < 10);
-        let mut host = with_bytes(rt.alloc(), b"abc")?;
-        assert_eq!(rt; host.write_at(FILE, at, bytes), Ok(()));
-        assert_eq!(rt; host.bytes(FILE), whole, "at {at}");
-        assert_eq!(rt; host.faults(), 0);
-
-        let mut host = with_bytes(rt.alloc(), b"abc")?;
-        host.fail_at(&[1])?;
-        assert_eq!(rt; host.write_at(FILE, at, bytes), Err(HostError::Fault));
-        assert_eq!(rt; host.bytes(FILE), half, "at {at}");
-        assert_eq!(rt; host.faults(), 1);
+        assert!(rt; write_leaves(rt.alloc(), at, bytes, &[], whole)?, "at {at}");
+        assert!(rt;
+            write_leaves(rt.alloc(), at, bytes, &[1], half)?,
+            "half at {at}"
+        );
     }
     Ok(())
+}
+
+// A cut of `abc` that fails leaves all, and the next one so much.
+fn cut_leaves(alloc: Global, len: u64, want: &[u8]) -> Result<bool, NoMemory> {
+    let mut host = with_bytes(alloc, b"abc")?;
+    host.fail_at(&[1])?;
+    let failed = host.cut(FILE, len) == Err(HostError::Fault)
+        && host.bytes(FILE) == b"abc".as_slice();
+    let cut = host.cut(FILE, len).is_ok() && host.bytes(FILE) == want;
+    Ok(failed && cut && host.cut(FILE + 1, len).is_ok() && host.len(FILE + 1) == Ok(0))
 }
 
 #[test]
 fn cuts(rt: HostRuntime) -> Result<(), Fail> {
     for (len, want) in [(0, b"".as_slice()), (2, b"ab"), (3, b"abc"), (4, b"abc")] {
-        let mut host = with_bytes(rt.alloc(), b"abc")?;
-        host.fail_at(&[1])?;
-        assert_eq!(rt; host.cut(FILE, len), Err(HostError::Fault));
-        assert_eq!(rt; host.bytes(FILE), b"abc".as_slice());
-        assert_eq!(rt; host.cut(FILE, len), Ok(()));
-        assert_eq!(rt; host.bytes(FILE), want, "to {len}");
-        assert_eq!(rt; host.cut(FILE + 1, len), Ok(()));
-        assert_eq!(rt; host.len(FILE + 1), Ok(0));
+        assert!(rt; cut_leaves(rt.alloc(), len, want)?, "to {len}");
     }
     Ok(())
+}
+
+// A read of `abc` gives so many bytes, and one that fails changes nothing.
+fn read_gives(
+    alloc: Global,
+    file: u64,
+    at: u64,
+    asked: usize,
+    count: usize,
+    want: &[u8],
+) -> Result<bool, NoMemory>
+    requires room { asked ≤ 5 }
+    requires place { at + 5 < PLACE_LIMIT }
+    requires number { file ≤ LAST_FILE }
+{
+    let mut host = with_bytes(alloc, b"abc")?;
+    let mut room = *b"-----";
+    let given = host.read_at(file, at, &mut room[..asked]) == Ok(count) && room.as_slice() == want;
+    host.fail_at(&[1])?;
+    let failed = host.read_at(file, at, &mut room).is_err() && room.as_slice() == want;
+    Ok(given && failed && host.reads() == 2)
 }
 
 #[test]
 fn reads(rt: HostRuntime) -> Result<(), Fail> {
     let table = [
         // the whole file, a part, across its end, at it, and past it
-        (FILE, 0, 3, b"abc--".as_slice()),
-        (FILE, 1, 1, b"b----"),
-        (FILE, 1, 2, b"bc---"),
-        (FILE, 3, 0, b"-----"),
-        (FILE, 7, 0, b"-----"),
-        (FILE + 1, 0, 0, b"-----"),
+        (FILE, 0, 5, 3, b"abc--".as_slice()),
+        (FILE, 1, 1, 1, b"b----"),
+        (FILE, 1, 5, 2, b"bc---"),
+        (FILE, 3, 5, 0, b"-----"),
+        (FILE, 7, 5, 0, b"-----"),
+        (FILE + 1, 0, 5, 0, b"-----"),
     ];
-    for (file, at, count, want) in table {
-        let mut host = with_bytes(rt.alloc(), b"abc")?;
-        let mut room = *b"-----";
-        let asked = if count == 1 { 1 } else { 5 };
-        assert_eq!(rt;
-            host.read_at(file, at, &mut room[..asked]),
-            Ok(count),
+    for (file, at, asked, count, want) in table {
+        assert!(rt; file < 7 && at < 10 && asked < 6);
+        assert!(rt;
+            read_gives(rt.alloc(), file, at, asked, count, want)?,
             "at {at}"
         );
-        assert_eq!(rt; room.as_slice(), want, "at {at}");
-        assert_eq!(rt; host.reads(), 1);
-
-        host.fail_at(&[1])?;
-        assert_eq!(rt; host.read_at(file, at, &mut room), Err(HostError::Fault));
-        assert_eq!(rt; room.as_slice(), want);
-        assert_eq!(rt; host.reads(), 2);
     }
     Ok(())
+}
+
+// Says on a channel, and answers whether it passed.
+fn says_on(host: &mut MemoryHost, channel: Channel, bytes: &[u8]) -> bool {
+    host.say(channel, bytes).is_ok()
 }
 
 #[test]
 fn says(rt: HostRuntime) -> Result<(), Fail> {
     let mut host = MemoryHost::new(rt.alloc());
     host.fail_at(&[2, 4])?;
-    assert_eq!(rt; host.say(Channel::Out, b"one\n"), Ok(()));
-    assert_eq!(rt; host.say(Channel::Err, b"three"), Err(HostError::Fault));
-    assert_eq!(rt; host.say(Channel::Out, b"two\n"), Ok(()));
-    assert_eq!(rt; host.say(Channel::Err, b"!"), Err(HostError::Fault));
+    assert!(rt; says_on(&mut host, Channel::Out, b"one\n"));
+    assert!(rt; !says_on(&mut host, Channel::Err, b"three"));
+    assert!(rt; says_on(&mut host, Channel::Out, b"two\n"));
+    assert!(rt; !says_on(&mut host, Channel::Err, b"!"));
     assert_eq!(rt; host.said(Channel::Out), b"one\ntwo\n".as_slice());
     assert_eq!(rt; host.said(Channel::Err), b"th".as_slice());
     Ok(())
@@ -112,84 +147,106 @@ fn each_call<H: Host>(host: &mut H) -> [bool; 6] {
     ]
 }
 
+// The six calls pass so, and the counts of calls, of reads and of faults are then these.
+fn calls_pass(host: &mut MemoryHost, want: [bool; 6], counts: (u64, u64, u64)) -> bool {
+    let passed = each_call(host);
+    passed == want && (host.calls(), host.reads(), host.faults()) == counts
+}
+
 #[test]
 fn counts_calls(rt: HostRuntime) -> Result<(), Fail> {
     let mut host = MemoryHost::new(rt.alloc());
-    assert_eq!(rt; each_call(&mut host), [true; 6]);
+    assert!(rt; calls_pass(&mut host, [true; 6], (6, 1, 0)));
     host.with_file(FILE, b"abc")?;
-    assert_eq!(rt; (host.calls(), host.reads(), host.faults()), (6, 1, 0));
 
     // The numbers count from where they are set, stay set, and no call has the number 0.
     host.fail_at(&[6, 0, 2, 2, 9])?;
-    assert_eq!(rt;
-        each_call(&mut host),
-        [true, false, true, true, true, false]
+    assert!(rt;
+        calls_pass(
+            &mut host,
+            [true, false, true, true, true, false],
+            (12, 2, 2)
+        )
     );
-    assert_eq!(rt; (host.calls(), host.reads(), host.faults()), (12, 2, 2));
     assert_eq!(rt; host.bytes(FILE), b"X".as_slice());
     assert_eq!(rt; host.said(Channel::Out), b"gog".as_slice());
 
     // The seventh and the eighth passed, and the ninth would fail, but others are set in its place.
-    assert_eq!(rt; (host.sync(), host.sync()), (Ok(()), Ok(())));
+    assert!(rt; host.sync().is_ok() && host.sync().is_ok());
     host.fail_at(&[1, 5])?;
-    assert_eq!(rt;
-        each_call(&mut host),
-        [false, true, true, true, false, true]
+    assert!(rt;
+        calls_pass(
+            &mut host,
+            [false, true, true, true, false, true],
+            (20, 3, 4)
+        )
     );
-    assert_eq!(rt; (host.calls(), host.reads(), host.faults()), (20, 3, 4));
     host.fail_at(&[])?;
-    assert_eq!(rt; each_call(&mut host), [true; 6]);
+    assert!(rt; calls_pass(&mut host, [true; 6], (26, 4, 4)));
     Ok(())
+}
+
+// A write whose file holds the bytes where it passed, and what it held before where it didn't.
+fn writes_or_not(host: &mut MemoryHost, file: u64, bytes: &[u8], before: &[u8]) -> bool
+    requires number { file ≤ LAST_FILE }
+    requires place { length bytes.now < PLACE_LIMIT }
+{
+    if host.write_at(file, 0, bytes).is_ok() {
+        host.bytes(file) == bytes
+    } else {
+        host.bytes(file) == before
+    }
+}
+
+// The same of a say, of which a fault says the first half.
+fn says_or_not(host: &mut MemoryHost, channel: Channel, bytes: &[u8], half: &[u8]) -> bool {
+    match host.say(channel, bytes) {
+        Ok(()) => host.said(channel) == bytes,
+        Err(HostError::Fault) => host.said(channel) == half,
+        Err(HostError::NoMemory) => host.said(channel) == b"".as_slice(),
+    }
 }
 
 // A call that is refused memory does nothing: `rt try --test --fail-alloc N` refuses the Nth request.
 #[test]
 fn refused_memory_changes_nothing(rt: HostRuntime) -> Result<(), Fail> {
     let mut host = MemoryHost::new(rt.alloc());
-    let mut file = b"".as_slice();
-    if host.with_file(FILE, b"abc").is_ok() {
-        file = b"abc";
-    }
-    assert_eq!(rt; host.bytes(FILE), file);
-    if host.write_at(FILE, 0, b"wxyz").is_ok() {
-        file = b"wxyz";
-    }
-    assert_eq!(rt; host.bytes(FILE), file);
-    let mut other = b"".as_slice();
-    if host.write_at(FILE + 1, 0, b"uv").is_ok() {
-        other = b"uv";
-    }
-    assert_eq!(rt; host.bytes(FILE + 1), other);
-    let mut out = b"".as_slice();
-    if host.say(Channel::Out, b"said").is_ok() {
-        out = b"said";
-    }
-    assert_eq!(rt; host.said(Channel::Out), out);
-
-    let mut fails = false;
-    if host.fail_at(&[1, 2]).is_ok() {
-        fails = true;
-    }
-    assert_eq!(rt; host.sync() == Err(HostError::Fault), fails);
-    let answer = host.say(Channel::Err, b"half");
-    let heard = match answer {
-        Ok(()) => b"half".as_slice(),
-        Err(HostError::Fault) => b"ha",
-        Err(HostError::NoMemory) => b"",
+    let file = if host.with_file(FILE, b"abc").is_ok() {
+        b"abc".as_slice()
+    } else {
+        b""
     };
-    assert_eq!(rt; host.said(Channel::Err), heard);
-    assert_eq!(rt; answer == Ok(()) && fails, false);
+    assert_eq!(rt; host.bytes(FILE), file);
+    assert!(rt; writes_or_not(&mut host, FILE, b"wxyz", file));
+    assert!(rt; writes_or_not(&mut host, FILE + 1, b"uv", b""));
+    assert!(rt; says_or_not(&mut host, Channel::Out, b"said", b""));
+    let fails = host.fail_at(&[1, 2]).is_ok();
+    assert!(rt; host.sync().is_err() == fails);
+    assert!(rt; says_or_not(&mut host, Channel::Err, b"half", b"ha"));
     assert_eq!(rt; host.calls(), 5);
-    assert_eq!(rt; host.bytes(FILE), file);
-    assert_eq!(rt; host.bytes(FILE + 1), other);
+    Ok(())
+}
 
-    // The sync made all durable, unless it was set to fail.
-    if host.crash(Outcome::Filled(b'?')).is_ok() && fails {
-        file = if file.len() == 4 { b"????" } else { file };
-        other = if other.len() == 2 { b"??" } else { other };
-    }
-    assert_eq!(rt; host.bytes(FILE), file);
-    assert_eq!(rt; host.bytes(FILE + 1), other);
+// A crash that is refused memory leaves the bytes, and else fills those that no sync made durable.
+#[test]
+fn refused_crash_changes_nothing(rt: HostRuntime) -> Result<(), Fail> {
+    let mut host = with_bytes(rt.alloc(), b"abc")?;
+    let before = if host.write_at(FILE, 1, b"X").is_ok() {
+        b"aXc".as_slice()
+    } else {
+        b"abc"
+    };
+    let filled = if before == b"aXc".as_slice() {
+        b"a?c".as_slice()
+    } else {
+        b"abc"
+    };
+    let want = if host.crash(Outcome::Filled(b'?')).is_ok() {
+        filled
+    } else {
+        before
+    };
+    assert_eq!(rt; host.bytes(FILE), want);
     Ok(())
 }
 
@@ -203,6 +260,24 @@ fn change(host: &mut MemoryHost, step: u8) -> Result<(), HostError> {
         4 => host.sync(),
         _ => host.write_at(FILE, 0, b"Z"),
     }
+}
+
+// These steps and then a crash leave the file so, and that is durable.
+fn crash_leaves(
+    alloc: Global,
+    steps: &[u8],
+    outcome: Outcome,
+    want: &[u8],
+) -> Result<bool, HostError> {
+    let mut host = with_bytes(alloc, b"abcdef")?;
+    host.with_file(FILE + 1, b"abc")?;
+    for step in steps {
+        change(&mut host, *step)?;
+    }
+    host.crash(outcome)?;
+    let left = host.bytes(FILE) == want;
+    host.crash(Outcome::Lost)?;
+    Ok(left && host.bytes(FILE) == want && host.bytes(FILE + 1) == b"abc".as_slice())
 }
 
 #[test]
@@ -224,53 +299,55 @@ fn crashes(rt: HostRuntime) -> Result<(), Fail> {
         (b"\x03\x04\0", b"aXY", b"ab", b"aAA"),
     ];
     for (steps, kept, lost, filled) in table {
-        let outcomes = [
-            (Outcome::Kept, kept),
-            (Outcome::Lost, lost),
-            (Outcome::Filled(b'A'), filled),
-        ];
-        for (outcome, want) in outcomes {
-            let mut host = with_bytes(rt.alloc(), b"abcdef")?;
-            host.with_file(FILE + 1, b"abc")?;
-            for step in steps {
-                assert_eq!(rt; change(&mut host, *step), Ok(()));
-            }
-            host.crash(outcome)?;
-            assert_eq!(rt; host.bytes(FILE), want);
-            // What a crash left is durable.
-            host.crash(Outcome::Lost)?;
-            assert_eq!(rt; host.bytes(FILE), want);
-            assert_eq!(rt; host.bytes(FILE + 1), b"abc".as_slice());
-        }
+        assert!(rt; crash_leaves(rt.alloc(), steps, Outcome::Kept, kept) == Ok(true));
+        assert!(rt; crash_leaves(rt.alloc(), steps, Outcome::Lost, lost) == Ok(true));
+        assert!(rt; crash_leaves(rt.alloc(), steps, Outcome::Filled(b'A'), filled) == Ok(true));
     }
     Ok(())
 }
 
+// A write of `XY` past the end of `abc`, which reads so, and what the crash leaves of it.
+fn write_crashes(
+    alloc: Global,
+    failing: &[u64],
+    outcome: Outcome,
+    reads: &[u8],
+    want: &[u8],
+) -> Result<bool, NoMemory> {
+    let mut host = with_bytes(alloc, b"abc")?;
+    host.fail_at(failing)?;
+    let passes = host.write_at(FILE, 5, b"XY").is_ok();
+    let counted = (host.calls(), host.faults()) == (1, failing.len() as u64);
+    let read = host.bytes(FILE) == reads;
+    host.crash(outcome)?;
+    Ok(passes == failing.is_empty() && counted && read && host.bytes(FILE) == want)
+}
+
 #[test]
 fn crashes_after_a_write(rt: HostRuntime) -> Result<(), Fail> {
-    let whole = (Ok(()), 0, b"abc\0\0XY".as_slice());
-    let half = (Err(HostError::Fault), 1, b"abc\0\0X".as_slice());
+    let whole = b"abc\0\0XY".as_slice();
+    let half = b"abc\0\0X".as_slice();
+    let none: &[u64] = &[];
     let table = [
-        (Outcome::Kept, whole, b"abc\0\0XY".as_slice()),
-        (Outcome::Lost, whole, b"abc"),
-        (Outcome::Filled(0x41), whole, b"abcAAAA"),
-        (Outcome::Kept, half, b"abc\0\0X"),
-        (Outcome::Lost, half, b"abc"),
+        (Outcome::Kept, none, whole, b"abc\0\0XY".as_slice()),
+        (Outcome::Lost, none, whole, b"abc"),
+        (Outcome::Filled(0x41), none, whole, b"abcAAAA"),
+        (Outcome::Kept, &[1], half, b"abc\0\0X"),
+        (Outcome::Lost, &[1], half, b"abc"),
         // The whole range that the call would have written is unsynced.
-        (Outcome::Filled(0x41), half, b"abcAAAA"),
+        (Outcome::Filled(0x41), &[1], half, b"abcAAAA"),
     ];
-    for (outcome, (answer, faults, reads), want) in table {
-        let mut host = with_bytes(rt.alloc(), b"abc")?;
-        if answer.is_err() {
-            host.fail_at(&[1])?;
-        }
-        assert_eq!(rt; host.write_at(FILE, 5, b"XY"), answer);
-        assert_eq!(rt; (host.calls(), host.faults()), (1, faults));
-        assert_eq!(rt; host.bytes(FILE), reads);
-        host.crash(outcome)?;
-        assert_eq!(rt; host.bytes(FILE), want);
+    for (outcome, failing, reads, want) in table {
+        assert!(rt; write_crashes(rt.alloc(), failing, outcome, reads, want)?);
     }
     Ok(())
+}
+
+// Writes, and answers whether it passed.
+fn writes_at(host: &mut MemoryHost, at: u64, bytes: &[u8]) -> bool
+    requires { at + length bytes.now < PLACE_LIMIT }
+{
+    host.write_at(FILE, at, bytes).is_ok()
 }
 
 #[test]
@@ -279,43 +356,53 @@ fn fuse_and_numbers(rt: HostRuntime) -> Result<(), Fail> {
     host.fail_at(&[1, 3, 5, 7])?;
     host.fuse(2);
     // half, by its number; whole; half, as the first that the fuse fails; and nothing from there on
-    assert_eq!(rt; host.write_at(FILE, 0, b"PQ"), Err(HostError::Fault));
-    assert_eq!(rt; host.write_at(FILE, 1, b"R"), Ok(()));
-    assert_eq!(rt; host.write_at(FILE, 2, b"STUV"), Err(HostError::Fault));
+    assert!(rt; !writes_at(&mut host, 0, b"PQ"));
+    assert!(rt; writes_at(&mut host, 1, b"R"));
+    assert!(rt; !writes_at(&mut host, 2, b"STUV"));
     assert_eq!(rt; host.bytes(FILE), b"PRST".as_slice());
-    assert_eq!(rt; host.write_at(FILE, 0, b"WX"), Err(HostError::Fault));
-    assert_eq!(rt; host.write_at(FILE, 0, b"WX"), Err(HostError::Fault));
-    assert_eq!(rt; host.say(Channel::Out, b"said"), Err(HostError::Fault));
+    assert!(rt; !writes_at(&mut host, 0, b"WX"));
+    assert!(rt; !writes_at(&mut host, 0, b"WX"));
+    assert!(rt; !says_on(&mut host, Channel::Out, b"said"));
     assert_eq!(rt; host.bytes(FILE), b"PRST".as_slice());
     assert_eq!(rt; host.said(Channel::Out), b"".as_slice());
     assert_eq!(rt; (host.calls(), host.faults()), (6, 5));
+    Ok(())
+}
 
-    // A new fuse takes the old one's place, and the numbers count on.
+// A new fuse takes the old one's place, and the numbers count on. After a crash none is set to fail, and what was
+// said stays.
+#[test]
+fn a_new_fuse(rt: HostRuntime) -> Result<(), Fail> {
+    let mut host = with_bytes(rt.alloc(), b"abcd")?;
+    host.fail_at(&[1])?;
+    host.fuse(0);
+    assert!(rt; host.sync().is_err());
     host.fuse(1);
-    assert_eq!(rt; host.say(Channel::Out, b"said"), Err(HostError::Fault));
-    assert_eq!(rt; host.say(Channel::Out, b"said"), Err(HostError::Fault));
-    assert_eq!(rt; host.sync(), Err(HostError::Fault));
-    assert_eq!(rt; host.said(Channel::Out), b"sasa".as_slice());
-
-    // After a crash none is set to fail, and what was said stays.
+    assert!(rt; says_on(&mut host, Channel::Out, b"a"));
+    assert!(rt; !says_on(&mut host, Channel::Out, b"said"));
+    assert!(rt; host.sync().is_err());
+    assert_eq!(rt; host.said(Channel::Out), b"asa".as_slice());
     host.crash(Outcome::Lost)?;
     assert_eq!(rt; host.bytes(FILE), b"abcd".as_slice());
-    assert_eq!(rt; host.sync(), Ok(()));
-    assert_eq!(rt; host.said(Channel::Out), b"sasa".as_slice());
-    assert_eq!(rt; (host.calls(), host.faults()), (10, 8));
+    assert!(rt; host.sync().is_ok());
+    assert_eq!(rt; host.said(Channel::Out), b"asa".as_slice());
+    assert_eq!(rt; (host.calls(), host.faults()), (5, 3));
     Ok(())
+}
+
+// A page of As over one of zeros, and a crash.
+fn page_crashes(alloc: Global, outcome: Outcome, want: u8) -> Result<bool, HostError> {
+    let mut host = MemoryHost::new(alloc);
+    host.with_file(3, &[0; 4096])?;
+    host.with_file(2, b"abc")?;
+    host.write_at(3, 0, &[0x41; 4096])?;
+    host.crash(outcome)?;
+    Ok(host.bytes(3) == [want; 4096].as_slice() && host.bytes(2) == b"abc".as_slice())
 }
 
 #[test]
 fn crashes_after_a_page(rt: HostRuntime) -> Result<(), Fail> {
-    for (outcome, want) in [(Outcome::Lost, 0), (Outcome::Kept, 0x41)] {
-        let mut host = MemoryHost::new(rt.alloc());
-        host.with_file(3, &[0; 4096])?;
-        host.with_file(2, b"abc")?;
-        assert_eq!(rt; host.write_at(3, 0, &[0x41; 4096]), Ok(()));
-        host.crash(outcome)?;
-        assert_eq!(rt; host.bytes(3), [want; 4096].as_slice());
-        assert_eq!(rt; host.bytes(2), b"abc".as_slice());
-    }
+    assert!(rt; page_crashes(rt.alloc(), Outcome::Lost, 0) == Ok(true));
+    assert!(rt; page_crashes(rt.alloc(), Outcome::Kept, 0x41) == Ok(true));
     Ok(())
 }

@@ -13,5 +13,5 @@ returns-clause-ran c = record {
   count = search rules;
   rose = search rules;
   spared = search rules;
-  refused = search rules;
+  tally = search rules;
 }

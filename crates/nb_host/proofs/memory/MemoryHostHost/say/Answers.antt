@@ -31,6 +31,7 @@ returns-then-is_ok-clause-spoke c =
       spared = search rules;
       refused = λ _.
           counts_no_refusal channel _ _ spoken.result (sym c.if-is_ok.ensures.value) spoken.ensures.refused;
+      syncs = search rules;
     }
 
 -- Whether the first half of the bytes was said, or none: the first of them were said.
@@ -60,6 +61,7 @@ returns-clause-spoke c =
       refused = λ _.
           counts_refusal channel _ _ _ spoken.result (sym c.if-is_ok.ensures.value) spoken.ensures.refused
           counted.no_less counted.count counted.others;
+      syncs = search rules;
     }
 
 pub returns-clause-refused_once : goal.returns-clause-refused_once

@@ -15,6 +15,8 @@ returns-clause-ran c = record {
   rose = search rules;
   spared = search rules;
   refused = search rules;
+  synced = λ _ _. search rules;
+  at_most = λ _. search rules;
 }
 
 pub returns-clause-durable : goal.returns-clause-durable

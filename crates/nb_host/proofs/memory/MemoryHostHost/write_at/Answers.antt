@@ -17,5 +17,5 @@ returns-clause-ran c =
       count = search rules;
       rose = search rules;
       spared = search rules;
-      refused = search rules;
+      tally = search rules;
     }
