@@ -1,20 +1,86 @@
 #!/bin/sh
-# Times the root, the pull and the opening criterion of crates/nb_fixed: prints tenths of nanoseconds a call, for softened
-# squares of 20, 40, 60 and 80 bits, in an open box and in one that wraps. It builds a small proved program over this
-# checkout's crates in a temporary folder, and leaves nothing.
+# Times the root, the pull and the opening criterion of crates/nb_fixed, in an open box and in one that wraps: prints tenths
+# of nanoseconds a call,
+#   N bits   for softened squares of 20, 40, 60 and 80 bits
+#   walk     for what a walk down the tree of 4096 random bodies meets, of each 64th of them: the opening criterion of the cells
+#            that it comes to, and the pulls of the cells that it takes and of the bodies of the leaves that it opens
+#   near     for the pulls of these that aren't 0 at once, as the softened square isn't above GM
+# It builds a small proved program over this checkout's crates in a temporary folder, and leaves nothing.
 set -eu
 . "$(dirname "$0")/small_program.sh"
 stand_on nb_model nb_fixed
+# What the walks meet, a line each: whether the walk tests it, whether it pulls, its level and whether its cell holds the body
+# that is pulled, the six coordinates of that body and of the centre, GM and the softened square.
+python3 - >"$bench/stdin" <<'PYTHON'
+SEED, BODIES, STEP = 1, 4096, 64
+GRAV, SOFT, LEAF = (2**60 - 1) // (1000 * BODIES), 65536, 8
+BOX_BITS, DEEPEST_LEVEL = 40, 21
+MASK = 2**64 - 1
+
+
+def splitmix64(state):
+    """The words of SplitMix64 (Steele, Lea and Flood 2014)."""
+    while True:
+        state = (state + 0x9E3779B97F4A7C15) & MASK
+        word = state
+        word = ((word ^ (word >> 30)) * 0xBF58476D1CE4E5B9) & MASK
+        word = ((word ^ (word >> 27)) * 0x94D049BB133111EB) & MASK
+        yield word ^ (word >> 31)
+
+
+def tree_of(level, bodies):
+    """The cell of these bodies: its level, its mass, its centre, a body of it, and its bodies or its octants."""
+    mass = sum(mass for mass, _ in bodies)
+    centre = [sum(mass * at[axis] for mass, at in bodies) // mass for axis in range(3)]
+    if len(bodies) <= LEAF or level == DEEPEST_LEVEL:
+        return level, mass, centre, bodies[0][1], bodies, []
+    parts = {}
+    for mass_of_body, at in bodies:
+        octant = [c >> (BOX_BITS - 1 - level) for c in at]
+        parts.setdefault(tuple(octant), []).append((mass_of_body, at))
+    octants = [tree_of(level + 1, parts[octant]) for octant in sorted(parts)]
+    return level, mass, centre, bodies[0][1], [], octants
+
+
+def meet(tested, pulls, level, inside, body, centre, mass, square):
+    print(int(tested), int(pulls), level, int(inside), *body, *centre, GRAV * mass, square + SOFT * SOFT)
+
+
+def walk(body, cell):
+    """Opens a cell that isn't further than twice its side."""
+    level, mass, centre, first, leaf, octants = cell
+    square = sum((a - b) ** 2 for a, b in zip(body, centre))
+    inside = all(a >> (BOX_BITS - level) == b >> (BOX_BITS - level) for a, b in zip(body, first))
+    opened = inside or square <= (2 << (BOX_BITS - level)) ** 2
+    meet(True, not opened, level, inside, body, centre, mass, square)
+    if opened:
+        for mass, at in leaf:
+            meet(False, True, level, inside, body, at, mass, sum((a - b) ** 2 for a, b in zip(body, at)))
+        for octant in octants:
+            walk(body, octant)
+
+
+words = splitmix64(SEED)
+bodies = []
+for _ in range(BODIES):
+    mass = 1 + next(words) % 1000
+    bodies.append((mass, [2**39 - 2**25 + next(words) // 2**38 for _ in range(3)]))
+root = tree_of(0, bodies)
+for _, body in bodies[::STEP]:
+    walk(body, root)
+PYTHON
 cat >"$bench/src/main.rt" <<'PROGRAM'
 //! Times the root, the pull and the opening criterion over numbers of a xorshift generator (Marsaglia 2003).
 #![tactic(auto)]
 
-ghost use Rattle.std.specs.Prelude.{◌≡◌, ◌*◌, ◌+◌, ◌^◌, ◌<◌, ◌≤◌};
+ghost use Rattle.std.specs.Prelude.{◌≡◌, ◌*◌, ◌+◌, ◌^◌, ◌<◌, ◌≤◌, IfSome};
+ghost use Rattle.nb_model.specs.Limits.{deepest_level, gm_limit};
 ghost use Rattle.nb_model.specs.Valid.{AreInRange, IsInBox};
 
 use nb_fixed::{opens, pull, root};
 use nb_model::{At, Edge, Params, V3};
-use std::io;
+use std::alloc::Global;
+use std::io::{self, BufRead, BufReader};
 use std::time::Instant;
 
 const COUNT: u64 = 4096;
@@ -23,6 +89,11 @@ const CALLS: u64 = COUNT * ROUNDS;
 /// Each time is the least of so many.
 const TRIES: u64 = 5;
 const SEED: u64 = 88172645463325252;
+/// How often the terms of the walks are gone through for a time, of which the least of so many is taken.
+const WALK_ROUNDS: u64 = 16;
+const WALK_TRIES: u64 = 25;
+const DEEPEST_LEVEL: u32 = 21;
+const GM_LIMIT: u64 = 1 << 60;
 
 fn next(state: u64) -> u64 {
     let a = state ^ (state << 13);
@@ -31,8 +102,8 @@ fn next(state: u64) -> u64 {
 }
 
 /// Tenths of a nanosecond a call.
-fn tenths(nanos: u128) -> u128 {
-    nanos.saturating_mul(10) / u128::from(CALLS)
+fn tenths(nanos: u128, calls: u64) -> u128 {
+    nanos.saturating_mul(10) / u128::from(calls.max(1))
 }
 
 fn time_root(rt: &HostRuntime, bits: u32) -> io::Result<()>
@@ -59,7 +130,7 @@ fn time_root(rt: &HostRuntime, bits: u32) -> io::Result<()>
         }
         least = least.min(start.elapsed(rt)?.as_nanos());
     }
-    let each = tenths(least);
+    let each = tenths(least, CALLS);
     println!(rt; "root {bits} bits: {each} (sum {sum})")?;
     Ok(())
 }
@@ -150,7 +221,7 @@ fn time_pull(rt: &HostRuntime, edge: Edge, bits: u32) -> io::Result<()>
         }
         least = least.min(start.elapsed(rt)?.as_nanos());
     }
-    let each = tenths(least);
+    let each = tenths(least, CALLS);
     let share = none / (CALLS * TRIES / 100);
     println!(rt; "pull {edge:?} {bits} bits: {each} ({share} of 100 without a kick, sum {sum})")?;
     Ok(())
@@ -174,12 +245,182 @@ fn time_opens(rt: &HostRuntime, edge: Edge, bits: u32) -> io::Result<()>
         }
         least = least.min(start.elapsed(rt)?.as_nanos());
     }
-    let each = tenths(least);
+    let each = tenths(least, CALLS);
     println!(rt; "opens {edge:?} {bits} bits: {each} ({opened} opened)")?;
     Ok(())
 }
 
+/// A cell that a walk tests.
+#[derive(Clone, Copy)]
+struct Test {
+    from: At,
+    centre: At,
+    level: u32,
+    inside: bool,
+    ghost from_in_box: { IsInBox from },
+    ghost centre_in_box: { IsInBox centre },
+    ghost no_deeper: { level ≤ deepest_level },
+}
+
+/// A mass that pulls in a walk.
+#[derive(Clone, Copy)]
+struct Term {
+    from: At,
+    centre: At,
+    gm: u64,
+    ghost from_in_box: { IsInBox from },
+    ghost centre_in_box: { IsInBox centre },
+    ghost light: { gm < gm_limit },
+}
+
+/// The numbers of a line, or fewer where one is none.
+fn numbers_of(alloc: Global, line: &str) -> io::Result<Vec<u128>> {
+    let mut numbers = Vec::new(alloc);
+    for word in line.split(' ') {
+        if let Ok(number) = word.parse::<u128>() {
+            numbers.push(number)?;
+        }
+    }
+    Ok(numbers)
+}
+
+fn position(x: u128, y: u128, z: u128) -> Option<At>
+    ensures { IfSome result (λ at. IsInBox at) }
+{
+    let at = At { x: u64::try_from(x).ok()?, y: u64::try_from(y).ok()?, z: u64::try_from(z).ok()? };
+    if !at.is_in_box() {
+        return None;
+    }
+    Some(at)
+}
+
+/// What the walks meet: the cells that they test, and the terms that pull, with the softened squares of all.
+#[derive(Drop)]
+struct Walks {
+    tests: Vec<Test>,
+    terms: Vec<Term>,
+    near: Vec<Term>,
+    squares: Vec<u64>,
+}
+
+impl Walks {
+    /// Takes up the cell or the term of a line, and passes by what is none.
+    fn add(&mut self, numbers: &[u128]) -> io::Result<()> {
+        if numbers.len() != 12 {
+            return Ok(());
+        }
+        let (Some(from), Some(centre)) = (
+            position(numbers[4], numbers[5], numbers[6]),
+            position(numbers[7], numbers[8], numbers[9]),
+        ) else {
+            return Ok(());
+        };
+        if let Ok(level) = u32::try_from(numbers[2]) {
+            if numbers[0] == 1 && level <= DEEPEST_LEVEL {
+                self.tests.push(Test { from, centre, level, inside: numbers[3] == 1 })?;
+            }
+        }
+        if let (Ok(gm), Ok(square)) = (u64::try_from(numbers[10]), u64::try_from(numbers[11])) {
+            if numbers[1] == 1 && gm < GM_LIMIT {
+                self.terms.push(Term { from, centre, gm })?;
+                self.squares.push(square)?;
+                if square <= gm {
+                    self.near.push(Term { from, centre, gm })?;
+                }
+            }
+        }
+        Ok(())
+    }
+}
+
+fn read_walks(rt: &HostRuntime) -> io::Result<Walks> {
+    let alloc = rt.alloc();
+    let mut walks = Walks {
+        tests: Vec::new(alloc),
+        terms: Vec::new(alloc),
+        near: Vec::new(alloc),
+        squares: Vec::new(alloc),
+    };
+    for line in BufReader::new(alloc, rt.reader())?.lines(alloc) {
+        let numbers = numbers_of(alloc, &line?)?;
+        walks.add(&numbers)?;
+    }
+    Ok(walks)
+}
+
+fn walk_params(edge: Edge) -> Params
+    ensures range { AreInRange result }
+    ensures unit { result.grav ≡ 1 }
+{
+    Params { soft: 65536, ..params(edge) }
+}
+
+fn time_walk_roots(rt: &HostRuntime, squares: &[u64]) -> io::Result<()> {
+    let mut sum = 0u64;
+    let mut least = u128::MAX;
+    for _ in 0..WALK_TRIES {
+        let start = Instant::now(rt)?;
+        for _ in 0..WALK_ROUNDS {
+            for square in squares {
+                sum = sum.wrapping_add(root(u128::from(*square)));
+            }
+        }
+        least = least.min(start.elapsed(rt)?.as_nanos());
+    }
+    let count = squares.len() as u64;
+    let each = tenths(least, count.saturating_mul(WALK_ROUNDS));
+    println!(rt; "root walk: {each} ({count} terms, sum {sum})")?;
+    Ok(())
+}
+
+fn time_walk_pulls(rt: &HostRuntime, edge: Edge, name: &str, terms: &[Term]) -> io::Result<()> {
+    let params = walk_params(edge);
+    let mut sum = 0i64;
+    let mut least = u128::MAX;
+    for _ in 0..WALK_TRIES {
+        let start = Instant::now(rt)?;
+        for _ in 0..WALK_ROUNDS {
+            for term in terms {
+                let kick = pull(&params, &term.from, term.gm, &term.centre);
+                sum = sum.wrapping_add(kick.x).wrapping_add(kick.y).wrapping_add(kick.z);
+            }
+        }
+        least = least.min(start.elapsed(rt)?.as_nanos());
+    }
+    let count = terms.len() as u64;
+    let each = tenths(least, count.saturating_mul(WALK_ROUNDS));
+    println!(rt; "pull {edge:?} {name}: {each} ({count} terms, sum {sum})")?;
+    Ok(())
+}
+
+fn time_walk_opens(rt: &HostRuntime, edge: Edge, tests: &[Test]) -> io::Result<()> {
+    let params = walk_params(edge);
+    let mut opened = 0u64;
+    let mut least = u128::MAX;
+    for _ in 0..WALK_TRIES {
+        let start = Instant::now(rt)?;
+        for _ in 0..WALK_ROUNDS {
+            for test in tests {
+                let is_opened = opens(&params, &test.from, test.level, &test.centre, test.inside);
+                opened = opened.wrapping_add(u64::from(is_opened));
+            }
+        }
+        least = least.min(start.elapsed(rt)?.as_nanos());
+    }
+    let count = tests.len() as u64;
+    let each = tenths(least, count.saturating_mul(WALK_ROUNDS));
+    println!(rt; "opens {edge:?} walk: {each} ({count} cells, {opened} opened)")?;
+    Ok(())
+}
+
 fn main(rt: HostRuntime) -> io::Result<()> {
+    let walks = read_walks(&rt)?;
+    time_walk_roots(&rt, &walks.squares)?;
+    for edge in [Edge::Open, Edge::Wrap] {
+        time_walk_pulls(&rt, edge, "walk", &walks.terms)?;
+        time_walk_pulls(&rt, edge, "near", &walks.near)?;
+        time_walk_opens(&rt, edge, &walks.tests)?;
+    }
     time_root(&rt, 20)?;
     time_root(&rt, 40)?;
     time_root(&rt, 60)?;
@@ -195,4 +436,4 @@ fn main(rt: HostRuntime) -> io::Result<()> {
     Ok(())
 }
 PROGRAM
-run_bench 'root|pull|opens'
+run_bench 'root|pull|opens' <"$bench/stdin"

@@ -5,7 +5,10 @@ ghost use Rattle.nb_model.specs.Limits.{box_side};
 ghost use Rattle.nb_model.specs.Vector.{nearest_along, nearest_displacement, norm_squared, square};
 ghost use Rattle.nb_model.specs.Valid.{IsInBox, IsBelow};
 
-use nb_model::{At, BOX_SIDE, Edge, HALF_BOX, V3};
+use nb_model::{At, BOX_BITS, Edge, V3};
+
+/// How many bits of a word a coordinate leaves.
+const UNUSED_BITS: u32 = 64 - BOX_BITS;
 
 /// The difference of two coordinates, or in a box that wraps the one to the nearest image.
 #[inline(always)]
@@ -17,8 +20,8 @@ fn nearest_along(edge: Edge, from: u64, to: u64) -> i64
 {
     match edge {
         Edge::Open => to as i64 - from as i64,
-        // A whole side more keeps the sum from being negative, so that its remainder is a mask.
-        Edge::Wrap => ((to + (BOX_SIDE + HALF_BOX) - from) % BOX_SIDE) as i64 - HALF_BOX as i64,
+        // The highest bit of a coordinate becomes the sign: from half a box on, the other side is nearer.
+        Edge::Wrap => (to as i64 - from as i64) << UNUSED_BITS >> UNUSED_BITS,
     }
 }
 

@@ -1,6 +1,6 @@
-//! A pull without a division. A table and one step of Newton's give the inverse of a root, and that the pull along
-//! each axis. No bound on the error of such an estimate is known here: whole-number tests say whether it settles
-//! the root and the quotients, and where they fail nothing is answered.
+//! A pull without a division. A table and one step of Newton's give the inverse of a root, and that the pull
+//! along each axis. No bound on the error of such an estimate is known here: whole-number tests say whether
+//! it settles the root and the quotients, and where they fail nothing is answered.
 
 ghost use Rattle.std.specs.Prelude.{◌≡◌, ◌+◌, ◌-◌, ◌*◌, ◌/◌, ◌^◌, ◌<◌, ◌≤◌, unsigned_abs, IfSome};
 ghost use Rattle.nb_model.specs.Limits.{gm_limit};

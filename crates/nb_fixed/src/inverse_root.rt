@@ -11,7 +11,8 @@ const TOO_HIGH: u64 = 8;
 
 const WORD_LIMIT: u64 = 1 << 32;
 
-/// For the ten highest bits of a number of 64 bits, from `FIRST_BITS` on, 2^47 over the root of such a number.
+/// For the ten highest bits of a number of 64 bits, from `FIRST_BITS` on, 2^47 over the root of such a
+/// number.
 #[rattlefmt::skip]
 const INVERSE_ROOTS: [u16; 768] = [
     65472, 65345, 65218, 65093, 64967, 64843, 64720, 64597, 64474, 64353, 64232, 64112,
@@ -90,7 +91,7 @@ pub fn inverse_root(n: u64) -> u64
     entry.wrapping_mul((3u64 << 30).wrapping_sub(square)) >> 15
 }
 
-/// About the root of the number `n` over 2^`half_shift`, and likely the root of `square`, which is `n` shifted back.
+/// About the root of the number `n` over 2^`half_shift`: likely the root of `square`, shifted up to `n`.
 #[inline(always)]
 pub fn estimated_root(square: u64, n: u64, half_shift: u32, inverse: u64) -> u64
     requires { half_shift ≤ 32 }

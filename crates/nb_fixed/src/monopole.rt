@@ -1,19 +1,22 @@
 //! The pull of a mass: a softened monopole.
 
 ghost use Rattle.std.specs.Prelude.{◌≡◌, ◌+◌, ◌*◌, ◌/◌, ◌%◌, ◌^◌, ◌<◌, ◌≤◌, unsigned_abs};
-ghost use Rattle.nb_model.specs.Limits.{gm_limit};
+ghost use Rattle.nb_model.specs.Limits.{box_side, gm_limit};
 ghost use Rattle.nb_model.specs.Root.{integer_root};
 ghost use Rattle.nb_model.specs.Gravity.{pull, pull_along};
-ghost use Rattle.nb_model.specs.Valid.{AreInRange, IsInBox};
+ghost use Rattle.nb_model.specs.Valid.{AreInRange, IsBelow, IsInBox};
 ghost use Rattle.nb_model.specs.Vector.{norm_squared};
 
-use crate::distance::{nearest_displacement, norm_squared};
+use crate::distance::nearest_displacement;
 use crate::estimate::estimated_pull;
 use crate::square_root::root_of_word;
 use nb_model::{At, Params, V3};
 
 /// The inverse of a root is a part of this.
 const ONE: u64 = 1 << 63;
+
+/// The limit of GM is the square of this.
+const NEAR: u64 = 1 << 30;
 
 /// What the three axes of a pull share: the softened square with its root, and GM over that square.
 #[derive(Drop)]
@@ -110,8 +113,43 @@ fn divided_pull(gm: u64, square: u64, displacement: &V3) -> V3
     }
 }
 
+/// The pull by this GM at this displacement, whose softened square is `square`.
+#[inline(never)]
+fn pull_at(gm: u64, square: u64, displacement: V3) -> V3
+    requires gm { gm < gm_limit }
+    requires some { 1 ≤ square }
+    requires near { square ≤ gm }
+    requires part { norm_squared displacement ≤ square }
+    ensures x { result.x ≡ pull_along gm square displacement.x }
+    ensures y { result.y ≡ pull_along gm square displacement.y }
+    ensures z { result.z ≡ pull_along gm square displacement.z }
+{
+    if let Some(kick) = estimated_pull(gm, square, &displacement) {
+        return kick;
+    }
+    divided_pull(gm, square, &displacement)
+}
+
+/// The softened square of a displacement, or more than any GM where a part of it alone reaches their limit.
+#[inline(always)]
+fn near_square(d: &V3, soft: u64) -> u64
+    requires d { IsBelow box_side d.now }
+    ensures near { result < gm_limit → result ≡ norm_squared d.now + soft * soft }
+    ensures far { gm_limit ≤ result → gm_limit ≤ norm_squared d.now + soft * soft }
+{
+    let x = d.x.unsigned_abs();
+    let y = d.y.unsigned_abs();
+    let z = d.z.unsigned_abs();
+    if x >= NEAR || y >= NEAR || z >= NEAR || soft >= NEAR {
+        return u64::MAX;
+    }
+    x * x + y * y + z * z + soft * soft
+}
+
 /// The half kick that a mass at `centre`, or in a box that wraps its nearest image, gives to a body at
 /// `from`, in box units a tick.
+// What most terms need stands where it is called: the others are 0.
+#[inline(always)]
 pub fn pull(params: &Params, from: &At, mass: u64, centre: &At) -> V3
     requires params { AreInRange params.now }
     requires from { IsInBox from.now }
@@ -120,16 +158,11 @@ pub fn pull(params: &Params, from: &At, mass: u64, centre: &At) -> V3
     ensures { result ≡ pull params.now from.now mass centre.now }
 {
     let gm = params.grav * mass;
-    let soft = u128::from(params.soft);
     let displacement = nearest_displacement(params.edge, from, centre);
-    let square = norm_squared(&displacement) + soft * soft;
-    if square > u128::from(gm) {
+    let square = near_square(&displacement, params.soft);
+    if square > gm {
         // Each distance is at most the root, so that each quotient is below 1.
         return V3 { x: 0, y: 0, z: 0 };
     }
-    let square = square as u64;
-    if let Some(kick) = estimated_pull(gm, square, &displacement) {
-        return kick;
-    }
-    divided_pull(gm, square, &displacement)
+    pull_at(gm, square, displacement)
 }

@@ -9,6 +9,9 @@ use crate::inverse_root::{checked_root, estimated_root, inverse_root};
 /// From which high byte on the table goes: a number is shifted up until its high byte is at least this.
 const FIRST_BYTE: u64 = 64;
 
+/// From which number of 64 bits on one of the two highest is set.
+const FIRST_WORD: u64 = 1 << 62;
+
 /// The base of the last digit, where a number has more than 64 bits.
 const LAST_BASE: u64 = 1 << 32;
 
@@ -127,12 +130,13 @@ fn rooted_64(n: u64) -> Rooted
 pub fn root_of_word(q: u64) -> u64
     ensures { result ≡ integer_root q }
 {
-    if q == 0 {
+    // To shift a number by twice as many bits is to shift its root.
+    let half_shift = q.leading_zeros() / 2 % 32;
+    let n = q << (2 * half_shift);
+    if n < FIRST_WORD {
+        // Only 0 can't be shifted up.
         return 0;
     }
-    // To shift a number by twice as many bits is to shift its root.
-    let half_shift = q.leading_zeros() / 2;
-    let n = q << (2 * half_shift);
     let estimate = estimated_root(q, n, half_shift, inverse_root(n));
     if let Some(root) = checked_root(q, estimate) {
         return root;

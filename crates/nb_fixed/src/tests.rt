@@ -8,7 +8,7 @@ ghost use Rattle.nb_model.specs.Valid.{AreInRange, IsValidBody, IsValidBodies};
 use crate::cell::mass_and_centre;
 use crate::distance::nearest_displacement;
 use crate::leapfrog::kick;
-use crate::{opens, plain_tick, root, trunc_div};
+use crate::{opens, plain_tick, pull, root, trunc_div};
 use nb_model::{At, Body, Edge, Params, V3, Way};
 use std::alloc::Global;
 use std::process::Abort;
@@ -327,6 +327,109 @@ fn half_a_box_is_minus_half_both_ways(rt: HostRuntime) {
         (Edge::Wrap, -half, -half, 1 - half),
     ] {
         assert_eq!(rt; nearest_displacement(edge, &from, &to), V3 { x, y, z });
+    }
+}
+
+/// The greatest GM.
+const MOST: u64 = (1 << 60) - 1;
+/// An eighth of it.
+const EIGHTH: i64 = 144115188075855871;
+/// The last coordinate of the box.
+const LAST: u64 = 2 * HALF - 1;
+
+/// Pulls that are hard to round: the edge, the constant of gravity with the mass and the softening, two
+/// positions and the half kick. Along each axis that is floor(GM * |d| / (q * root of q)) with the sign of d,
+/// where d is the difference and q the softened square, reckoned with whole numbers of any length.
+#[rattlefmt::skip]
+const PULLS: [(Edge, [u64; 3], [u64; 3], [u64; 3], [i64; 3]); 31] = [
+    // Half a box on each axis, from both sides: too far for any GM.
+    (Edge::Wrap, [MOST, 1, 1], [0, HALF, 0], [HALF, 0, HALF], [0, 0, 0]),
+    (Edge::Wrap, [MOST, 1, 1], [HALF, 0, HALF], [0, HALF, 0], [0, 0, 0]),
+    // Across the border, and the same in an open box.
+    (Edge::Wrap, [MOST, 1, 1], [0, 7, 7], [LAST - 536870911, 7, 7], [-3, 0, 0]),
+    (Edge::Open, [MOST, 1, 1], [0, 7, 7], [LAST - 536870911, 7, 7], [0, 0, 0]),
+    // The border between two neighbours: 2^60 - 1 over 3.
+    (Edge::Wrap, [MOST, 1, 1], [LAST, LAST, 7], [0, 0, 7], [384307168202282325, 384307168202282325, 0]),
+    // No distance, and the least: all, a half and an eighth of the greatest GM.
+    (Edge::Open, [MOST, 1, 1], [5, 5, 5], [5, 5, 5], [0, 0, 0]),
+    (Edge::Open, [MOST, 1, 1], [5, 5, 5], [6, 5, 5], [576460752303423487, 0, 0]),
+    (Edge::Open, [MOST, 1, 1], [5, 5, 5], [4, 4, 4], [-EIGHTH, -EIGHTH, -EIGHTH]),
+    // The greatest mass of a body.
+    (Edge::Open, [268435456, 4294967295, 1], [5, 5, 5], [5, 6, 5], [0, 576460752169205760, 0]),
+    // About 2^30, the root of the limit of GM: 2^60 - 1 over 2^60 - 2^31 + 2, and over more than it.
+    (Edge::Open, [1, MOST, 1], [0, 0, 0], [1073741823, 0, 0], [1, 0, 0]),
+    (Edge::Open, [1, MOST, 1], [0, 0, 0], [1073741824, 0, 0], [0, 0, 0]),
+    (Edge::Open, [1, MOST, 1], [0, 0, 0], [1073741823, 1073741823, 1073741823], [0, 0, 0]),
+    // 2^60 - 1 over 2^58 + 1.
+    (Edge::Open, [1, MOST, 1], [0, 0, 536870912], [0, 0, 0], [0, 0, -3]),
+    // The greatest softenings: the distance over the root is below 1, or the square above GM.
+    (Edge::Open, [1, MOST, 1073741823], [0, 0, 0], [46340, 0, 0], [0, 0, 0]),
+    (Edge::Open, [1, MOST, 1073741824], [0, 0, 0], [1, 0, 0], [0, 0, 0]),
+    (Edge::Open, [1, MOST, LAST], [0, 0, 0], [1, 0, 0], [0, 0, 0]),
+    // The square is 1000001 and its root the distance: 1, 7 and 1000 times the square, and one less.
+    (Edge::Open, [1, 1000001, 1], [0, 0, 0], [1000, 0, 0], [1, 0, 0]),
+    (Edge::Open, [1, 1000000, 1], [0, 0, 0], [1000, 0, 0], [0, 0, 0]),
+    (Edge::Open, [1, 7000007, 1], [1000, 0, 0], [0, 0, 0], [-7, 0, 0]),
+    (Edge::Open, [1, 7000006, 1], [1000, 0, 0], [0, 0, 0], [-6, 0, 0]),
+    (Edge::Open, [1, 1000001000, 1], [1000, 0, 0], [0, 0, 0], [-1000, 0, 0]),
+    (Edge::Open, [1, 1000000999, 1], [1000, 0, 0], [0, 0, 0], [-999, 0, 0]),
+    // Half a quotient further.
+    (Edge::Open, [1, 1000501000, 1], [1000, 0, 0], [0, 0, 0], [-1000, 0, 0]),
+    // The root is 500: two axes are whole at once, and one less.
+    (Edge::Open, [1, 1250005, 1], [0, 400, 9], [300, 0, 9], [3, -4, 0]),
+    (Edge::Open, [1, 1250004, 1], [0, 400, 9], [300, 0, 9], [2, -3, 0]),
+    // The square is one less than that of 2000001: 250000 times the square, and one less.
+    (Edge::Open, [1, 1000001000000000000, 2000], [0, 0, 0], [2000000, 0, 0], [250000, 0, 0]),
+    (Edge::Open, [1, 1000000999999999999, 2000], [0, 0, 0], [2000000, 0, 0], [249999, 0, 0]),
+    // 2^20 times a square, and one less: the quotient has more bits than the floor of a ratio.
+    (Edge::Open, [1, 1152919305585688576, 1], [0, 0, 0], [1048575, 0, 0], [1048576, 0, 0]),
+    (Edge::Open, [1, 1152919305585688575, 1], [0, 0, 0], [1048575, 0, 0], [1048575, 0, 0]),
+    // The ratio has no bit to be shifted down, and three.
+    (Edge::Open, [1, 576460752303423487, 1], [0, 0, 0], [8192, 8191, 3], [3037695502, 3037324689, 1112437]),
+    (Edge::Open, [1, 576460752303423487, 1], [0, 0, 0], [16384, 16383, 3], [759344792, 759298445, 139040]),
+];
+
+/// The half kick of such numbers, where they are in their ranges.
+fn pull_of(edge: Edge, numbers: [u64; 3], from: [u64; 3], to: [u64; 3]) -> Option<V3> {
+    let [grav, mass, soft] = numbers;
+    let from = At {
+        x: from[0],
+        y: from[1],
+        z: from[2],
+    };
+    let to = At {
+        x: to[0],
+        y: to[1],
+        z: to[2],
+    };
+    let gm = u128::from(grav) * u128::from(mass);
+    if grav >= 1 << 60 || gm >= 1 << 60 || soft == 0 || soft >= 1 << 40 {
+        return None;
+    }
+    if !from.is_in_box() || !to.is_in_box() {
+        return None;
+    }
+    let params = Params {
+        grav,
+        theta_num: 1,
+        theta_den: 2,
+        soft,
+        leaf: 8,
+        every: 100,
+        edge,
+    };
+    Some(pull(&params, &from, mass, &to))
+}
+
+#[test]
+fn pulls_are_rounded_toward_zero(rt: HostRuntime) {
+    for (edge, numbers, from, to, [x, y, z]) in PULLS {
+        let kick = pull_of(edge, numbers, from, to);
+        assert_eq!(rt;
+            kick,
+            Some(V3 { x, y, z }),
+            "{edge:?} {numbers:?} {from:?} {to:?}"
+        );
     }
 }
 
