@@ -1,13 +1,14 @@
 -- The bodies of a cell, in the file of all bodies.
 use Rattle.std.proofs.Common.{◌≡◌, ℕ, zero, suc, ◌+◌, ◌<◌, ◌≤◌, ◌↔◌, Bool, true, eqb, List, [], ◌∷◌, ◌++◌, length, take, drop, sym, ap, ◌∙◌, refl, subst, inl, inr, arith}
-use Rattle.std.specs.Prelude.{filter, slice_get, Contains}
+use Rattle.std.specs.Prelude.{filter, slice_get, sum_by, Contains}
 use Rattle.std.proofs.lemmas.Bool.{eq-eqb}
 use Rattle.std.proofs.lemmas.List.{length-drop, take-append-le, drop-append-le}
 use Rattle.std.proofs.lemmas.List.Elements.{All-filter, All-contains, All-contains_itself}
-use Rattle.std.proofs.lemmas.List.Sorted.{IsPermutation-sym}
+use Rattle.std.proofs.lemmas.List.Sorted.{IsPermutation-sym, sum_by-IsPermutation}
 use Rattle.nb_model.specs.declared.body.At.{At}
 use Rattle.nb_model.specs.declared.body.Body.{Body}
 use Rattle.nb_model.specs.declared.params.Params.{Params}
+use Rattle.nb_model.specs.Octree.{total_mass}
 use Rattle.nb_model.specs.Gravity.{direct_sum}
 use Rattle.nb_model.specs.Leapfrog.{in_box}
 use Rattle.nb_key.specs.Morton.{key_at}
@@ -17,7 +18,7 @@ use Rattle.nb_record.specs.Cells.{in_cell, IsTreeCell}
 use Rattle.nb_record.proofs.Sorting.{either, permuted}
 use Rattle.nb_record.proofs.Splits.{length-sorted_by, filter_yes, filter_no}
 use Rattle.nb_record.proofs.Orders.{parts}
-use Rattle.nb_record.proofs.Places.{inside_box, cell_range, range_within}
+use Rattle.nb_record.proofs.Ranges.{inside_box, cell_range, range_within}
 use Rattle.nb_record.proofs.Siblings.{all_in_cell}
 use Rattle.nb_record.proofs.SameForces.{same_direct_sum}
 
@@ -79,3 +80,11 @@ cell_pulls params bodies p level cell is =
     let own = in_cell level cell.key (in_box bodies) in
     ap (direct_sum params p) (cell_read params bodies level cell is)
     ∙ same_direct_sum params p (sorted_by by_key own) own (IsPermutation-sym own (sorted_by by_key own) (permuted by_key own))
+
+pub cell_sums : (f : Body → ℕ) (params : Params) (bodies : List Body) (level : ℕ) (cell : Cell) → IsTreeCell params (in_box bodies) level cell → sum_by f (take cell.count (drop cell.first (sorted_by by_key bodies))) ≡ sum_by f (in_cell level cell.key (in_box bodies))
+cell_sums f params bodies level cell is =
+    let own = in_cell level cell.key (in_box bodies) in
+    ap (sum_by f) (cell_read params bodies level cell is) ∙ sum_by-IsPermutation f own (sorted_by by_key own) (permuted by_key own)
+
+pub cell_weighs : (params : Params) (bodies : List Body) (level : ℕ) (cell : Cell) → IsTreeCell params (in_box bodies) level cell → total_mass (take cell.count (drop cell.first (sorted_by by_key bodies))) ≡ cell.mass
+cell_weighs params bodies level cell is = cell_sums (λ b. b.mass) params bodies level cell is ∙ sym is.mass

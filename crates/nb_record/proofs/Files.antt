@@ -1,4 +1,4 @@
--- A file of bodies holds one list, and each of its bodies has a place.
+-- A file of bodies holds one list, and each of its bodies has a page and an index there.
 use Rattle.std.proofs.Common.{◌≡◌, ℕ, zero, suc, ◌-◌, ◌/◌, ◌%◌, ◌<◌, List, length, sym, ◌∙◌, arith}
 use Rattle.std.proofs.lemmas.List.{same_lists}
 use Rattle.std.proofs.lemmas.Option.{get_or_from_slice_get}
@@ -11,8 +11,8 @@ use Rattle.nb_record.specs.Order.{pages_for, count_on, record_of, HoldsBodies}
 pub page_within : (count j : ℕ) → j < count → j / BODIES_PER_PAGE < pages_for count
 page_within count j below = omega arith
 
-pub place_within : (count j : ℕ) → j < count → j % BODIES_PER_PAGE < count_on count (j / BODIES_PER_PAGE)
-place_within count j below = grind arith
+pub index_within : (count j : ℕ) → j < count → j % BODIES_PER_PAGE < count_on count (j / BODIES_PER_PAGE)
+index_within count j below = grind arith
 
 same_pages : (a b : ℕ) → page_start (pages_for a) ≡ page_start (pages_for b) → pages_for a ≡ pages_for b
 same_pages a b same = omega arith

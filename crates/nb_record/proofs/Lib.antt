@@ -15,7 +15,7 @@ mod Lookups
 mod Splits
 mod Moves
 mod Orders
-mod Places
+mod Ranges
 mod Siblings
 mod TreeCells
 mod TreeKeys

@@ -1,4 +1,4 @@
--- The lists that a page of cells and a page of bodies say, by their places.
+-- The lists that a page of cells and a page of bodies say, by their indexes.
 use Rattle.std.proofs.Common.{◌≡◌, ℕ, zero, suc, ◌<◌, ◌↔◌, List, [], ◌∷◌, length, get_or, Some, None, sym, ap, ◌∙◌, refl, inl, inr, arith}
 use Rattle.std.specs.Prelude.{◌≢◌, slice_get, All}
 use Rattle.std.proofs.lemmas.Bool.{cases_lt}
@@ -9,7 +9,7 @@ use Rattle.nb_record.specs.declared.cell.Cell.{Cell}
 use Rattle.nb_record.specs.Fields.{word}
 use Rattle.nb_record.specs.Pages.{page_count}
 use Rattle.nb_record.specs.Records.{body_record, body_of, first_bodies, bodies_of, cell_record, cell_of, first_cells, cells_of}
-use Rattle.nb_record.specs.Looking.{place_of_key}
+use Rattle.nb_record.specs.Looking.{index_of_key}
 use Rattle.nb_record.proofs.Searching.{find_some, find_first, find_none, find_lacks}
 
 -- ---- cells
@@ -39,24 +39,24 @@ cell_at bytes i below =
     let cell = cell_of (cell_record i bytes) in
     slice_get-get_or (cells_of bytes) i cell (omega (arith, length-cells_of bytes)) ∙ ap (λ c. Some c) (get_or-first_cells (page_count bytes) i bytes cell below)
 
--- ---- the place of a key
+-- ---- the index of a key
 
-pub key_found : (bytes : List ℕ) (key i : ℕ) → place_of_key key bytes ≡ Some i → (i < page_count bytes) × (word 0 (cell_record i bytes) ≡ key)
+pub key_found : (bytes : List ℕ) (key i : ℕ) → index_of_key key bytes ≡ Some i → (i < page_count bytes) × (word 0 (cell_record i bytes) ≡ key)
 key_found bytes key i is =
     let found = find_some (page_count bytes) 0 key bytes i is in
     (omega (arith, found.1), found.2)
 
-pub key_first : (bytes : List ℕ) (key i : ℕ) → place_of_key key bytes ≡ Some i → (j : ℕ) → j < i → word 0 (cell_record j bytes) ≢ key
+pub key_first : (bytes : List ℕ) (key i : ℕ) → index_of_key key bytes ≡ Some i → (j : ℕ) → j < i → word 0 (cell_record j bytes) ≢ key
 key_first bytes key i is j before = find_first (page_count bytes) 0 key bytes i is j (omega arith) before
 
-pub key_lacking : (bytes : List ℕ) (key : ℕ) → (place_of_key key bytes ≡ None) ↔ All (λ c. c.key ≢ key) (cells_of bytes)
+pub key_lacking : (bytes : List ℕ) (key : ℕ) → (index_of_key key bytes ≡ None) ↔ All (λ c. c.key ≢ key) (cells_of bytes)
 key_lacking bytes key = (into, back) where
-  into : place_of_key key bytes ≡ None → All (λ c. c.key ≢ key) (cells_of bytes)
+  into : index_of_key key bytes ≡ None → All (λ c. c.key ≢ key) (cells_of bytes)
   into is k d below same =
       let within : k < page_count bytes = omega (arith, length-cells_of bytes) in
       find_none (page_count bytes) 0 key bytes is k (omega arith) (omega arith) (ap (λ c. c.key) (sym (get_or-first_cells (page_count bytes) k bytes d within)) ∙ same)
 
-  back : All (λ c. c.key ≢ key) (cells_of bytes) → place_of_key key bytes ≡ None
+  back : All (λ c. c.key ≢ key) (cells_of bytes) → index_of_key key bytes ≡ None
   back all =
       find_lacks (page_count bytes) 0 key bytes
       (λ k from to same.

@@ -1,12 +1,12 @@
 -- A search for a key along its chain, against the cells of the table.
-use Rattle.std.proofs.Common.{◌≡◌, ℕ, ◌%◌, ◌^◌, ◌<◌, Bool, false, eqb, List, [], ◌∷◌, ◌++◌, ap, ◌∙◌, subst, inl, inr, arith}
+use Rattle.std.proofs.Common.{◌≡◌, ℕ, zero, suc, ◌%◌, ◌^◌, ◌<◌, ◌≤◌, Bool, true, false, eqb, List, [], ◌∷◌, ◌++◌, length, sym, ap, ◌∙◌, refl, subst, inl, inr, arith}
 use Rattle.std.specs.Prelude.{◌≢◌, All, Contains, filter}
 use Rattle.std.specs.List.{flat_map}
-use Rattle.std.proofs.lemmas.Bool.{cond-true, cond-false, eq-eqb}
+use Rattle.std.proofs.lemmas.Bool.{cond-true, cond-false, eq-eqb, cases_eq, cases_lt}
 use Rattle.std.proofs.lemmas.Nat.{pow_pos, mod_below}
-use Rattle.std.proofs.lemmas.List.{append-nil}
-use Rattle.std.proofs.lemmas.List.Elements.{All-nil, All-cons, All-head, All-tail, All-filter, All-contains_itself}
-use Rattle.std.proofs.lemmas.List.Sorted.{All-permutation, IsPermutation-sym}
+use Rattle.std.proofs.lemmas.List.{append-nil, take_at, drop_at}
+use Rattle.std.proofs.lemmas.List.Elements.{All-nil, All-cons, All-head, All-tail, All-take, All-drop, All-filter, All-contains_itself}
+use Rattle.std.proofs.lemmas.List.Sorted.{All-permutation, Contains-permutation, IsPermutation-sym}
 use Rattle.nb_record.specs.declared.cell.Cell.{Cell}
 use Rattle.nb_record.specs.Records.{cells_of}
 use Rattle.nb_host.specs.Page.{page_of}
@@ -63,3 +63,62 @@ key_gone file bits pages cells is key gone =
     let test = λ (c : Cell). eqb (c.key % 2 ^ bits) h in
     all_from_filter (λ c. c.key ≢ key) test cells (λ c fails same. fails_not (c.key % 2 ^ bits) h fails (ap (λ k. k % 2 ^ bits) same))
     (All-permutation (λ c. c.key ≢ key) (cells_on_chain file pages h) (filter test cells) (is.chains h below) gone)
+
+-- ---- the chain on which a cell stands
+
+kept : (test : Cell → Bool) (x : Cell) (cs : List Cell) → test x ≡ true → Contains cs x → Contains (filter test cs) x
+kept test x [] is (k, below, at) = absurd (omega arith)
+kept test x (c ∷ cs) is (zero, below, at) =
+    subst (λ l. Contains l x) (sym (cond-true (test c) (c ∷ filter test cs) (filter test cs) (ap test at ∙ is))) (0, omega arith, at)
+kept test x (c ∷ cs) is (suc k, below, at) =
+    let rest = kept test x cs is (k, omega arith, at) in
+    elim (either (test c)) [
+      | inl passes ↦ subst (λ l. Contains l x) (sym (cond-true (test c) (c ∷ filter test cs) (filter test cs) passes)) (suc rest.0, omega (arith, rest.1), rest.2)
+      | inr fails ↦ subst (λ l. Contains l x) (sym (cond-false (test c) (c ∷ filter test cs) (filter test cs) fails)) rest
+    ]
+
+pub cell_stands : (file : List ℕ) (bits pages : ℕ) (cells : List Cell) → IsCellTable file bits pages cells → (cell : Cell) → Contains cells cell → Contains (cells_on_chain file pages (cell.key % 2 ^ bits)) cell
+cell_stands file bits pages cells is cell within =
+    let h = cell.key % 2 ^ bits in
+    let below : h < 2 ^ bits = mod_below cell.key (2 ^ bits) (pow_pos bits) in
+    let test = λ (c : Cell). eqb (c.key % 2 ^ bits) h in
+    Contains-permutation (filter test cells) (cells_on_chain file pages h) cell
+    (IsPermutation-sym (cells_on_chain file pages h) (filter test cells) (is.chains h below))
+    (kept test cell cells (eq-eqb h h refl) within)
+
+-- ---- a page in the middle of a chain
+
+All-behind : (P : Cell → Type 0) (front rest : List Cell) → All P (front ++ rest) → All P rest
+All-behind P front rest all = subst (All P) (drop_at front rest (length front) refl) (All-drop P (length front) (front ++ rest) all)
+
+All-front : (P : Cell → Type 0) (front rest : List Cell) → All P (front ++ rest) → All P front
+All-front P front rest all = subst (All P) (take_at front rest (length front) refl) (All-take P (length front) (front ++ rest) all)
+
+-- A page from 2 ^ bits on follows one before it, so its chain is the end of another.
+chain_holds_below : (file : List ℕ) (bits pages : ℕ) (cells : List Cell) → IsCellTable file bits pages cells → (n p : ℕ) → p ≤ n → p < pages → All (λ c. Contains cells c) (cells_on_chain file pages p)
+chain_holds_below file bits pages cells is zero p most below = chain_holds file bits pages cells is p (omega (arith, pow_pos bits))
+chain_holds_below file bits pages cells is (suc n) p most below =
+    elim (cases_lt p (2 ^ bits)) [
+      | inl begins ↦ chain_holds file bits pages cells is p begins
+      | inr behind ↦
+          let follows = is.follows p behind below in
+          let before = follows.before in
+          let some : next_of file before ≢ 0 = λ none. absurd (omega (arith, none, follows.is, behind, pow_pos bits)) in
+          let later = (leads_on file bits pages cells is).later before follows.within some in
+          let held = chain_holds_below file bits pages cells is n before (omega (arith, later, follows.is)) follows.within in
+          subst (λ q. All (λ c. Contains cells c) (cells_on_chain file pages q)) follows.is
+          (All-behind (λ c. Contains cells c) (cells_of (page_of file before)) (cells_on_chain file pages (next_of file before))
+          (subst (All (λ c. Contains cells c)) (cells_follow file bits pages cells is before follows.within some) held))
+    ]
+
+pub chain_holds_from : (file : List ℕ) (bits pages : ℕ) (cells : List Cell) → IsCellTable file bits pages cells → (p : ℕ) → p < pages → All (λ c. Contains cells c) (cells_on_chain file pages p)
+chain_holds_from file bits pages cells is p below = chain_holds_below file bits pages cells is p p (omega arith) below
+
+pub page_holds : (file : List ℕ) (bits pages : ℕ) (cells : List Cell) → IsCellTable file bits pages cells → (p : ℕ) → p < pages → All (λ c. Contains cells c) (cells_of (page_of file p))
+page_holds file bits pages cells is p below =
+    let held = chain_holds_from file bits pages cells is p below in
+    elim (cases_eq (next_of file p) 0) [
+      | inl none ↦ subst (All (λ c. Contains cells c)) (cells_end file pages p below none) held
+      | inr some ↦ All-front (λ c. Contains cells c) (cells_of (page_of file p)) (cells_on_chain file pages (next_of file p))
+          (subst (All (λ c. Contains cells c)) (cells_follow file bits pages cells is p below some) held)
+    ]

@@ -1,13 +1,15 @@
--- A list in Morton order is its own sorted list, with the bodies in the box in front.
-use Rattle.std.proofs.Common.{◌≡◌, ℕ, List, length, take, sym, ap, subst, ◌∙◌}
-use Rattle.std.specs.Prelude.{All}
+-- A list in Morton order is its own sorted list, with the bodies in the box in front. One whose ids rise is its own too.
+use Rattle.std.proofs.Common.{◌≡◌, ℕ, suc, ◌+◌, ◌<◌, List, [], ◌∷◌, length, take, sym, ap, subst, ◌∙◌, arith}
+use Rattle.std.specs.Prelude.{map, slice_index, All}
+use Rattle.std.specs.List.Sorted.{IsStrictlyIncreasing}
+use Rattle.std.proofs.lemmas.Bool.{lt-ltb}
 use Rattle.std.proofs.lemmas.List.Sorted.{IsPermutation-refl}
 use Rattle.std.proofs.lemmas.Option.{get_or_from_slice_get}
 use Rattle.nb_model.specs.declared.body.Body.{Body}
 use Rattle.nb_model.specs.Valid.{IsValidBody}
 use Rattle.nb_model.specs.Leapfrog.{in_box}
 use Rattle.nb_record.specs.Records.{body_of}
-use Rattle.nb_record.specs.Order.{by_key, sorted_by, IsSortedByRank, record_of, HoldsBodies}
+use Rattle.nb_record.specs.Order.{by_key, by_id, sorted_by, IsSortedByRank, record_of, HoldsBodies}
 use Rattle.nb_record.proofs.Sorting.{only}
 use Rattle.nb_record.proofs.Orders.{front, in_box_sorted}
 
@@ -22,3 +24,15 @@ own_front bodies is =
 pub held_valid : (file : List ℕ) (bodies : List Body) → HoldsBodies file bodies → All IsValidBody bodies
 held_valid file bodies has k d below =
     subst IsValidBody (sym (get_or_from_slice_get bodies k (body_of (record_of file k)) d (has.held k below))) (has.records k below).body
+
+ids_rise : (bodies : List Body) → IsStrictlyIncreasing (map (λ b. b.id) bodies) → IsSortedByRank by_id bodies
+ids_rise [] rises = tt
+ids_rise (b ∷ []) rises = tt
+ids_rise (b ∷ c ∷ cs) rises = (lt-ltb b.id c.id (rises 0 (omega arith)), ids_rise (c ∷ cs) behind) where
+  behind : IsStrictlyIncreasing (map (λ b. b.id) (c ∷ cs))
+  behind k within =
+      let next : suc k + 1 ≡ suc (k + 1) = omega arith in
+      subst (λ j. slice_index (map (λ b. b.id) (c ∷ cs)) k < slice_index (map (λ b. b.id) (b ∷ c ∷ cs)) j) next (rises (suc k) (omega arith))
+
+pub own_by_id : (bodies : List Body) → IsStrictlyIncreasing (map (λ b. b.id) bodies) → sorted_by by_id bodies ≡ bodies
+own_by_id bodies rises = sym (own_order by_id bodies (ids_rise bodies rises))

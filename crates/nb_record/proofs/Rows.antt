@@ -6,6 +6,7 @@ use Rattle.std.proofs.lemmas.Int.{to_z-of_z, fits_signed_from_abs}
 use Rattle.std.proofs.lemmas.List.{append_assoc, length-append}
 use Rattle.nb_model.specs.declared.body.V3.{V3}
 use Rattle.nb_model.specs.declared.body.Body.{Body}
+use Rattle.nb_model.specs.Bytes.{body_bytes, vector_bytes}
 use Rattle.nb_model.specs.Limits.{kick_limit}
 use Rattle.nb_model.specs.Valid.{IsBelow, IsValidBody}
 use Rattle.nb_record.specs.declared.cell.Cell.{Cell}
@@ -13,7 +14,7 @@ use Rattle.nb_host.specs.declared.page_name.TheConstants.{PAGE_SIZE}
 use Rattle.nb_record.specs.declared.sizes.TheConstants.{BODY_SIZE, CELL_SIZE, KICK_AT, BODIES_PER_PAGE, CELLS_PER_PAGE}
 use Rattle.nb_record.specs.Fields.{word, short, signed_word, word_bytes, short_bytes, written}
 use Rattle.nb_record.specs.Pages.{page_count}
-use Rattle.nb_record.specs.Records.{body_of, body_bytes, kick_of, kick_bytes, record_bytes, IsBodyRecord, FitsBodyRecord, cell_of, cell_bytes, FitsCellRecord}
+use Rattle.nb_record.specs.Records.{body_of, kick_of, record_bytes, IsBodyRecord, FitsBodyRecord, cell_of, cell_bytes, FitsCellRecord}
 use Rattle.nb_record.proofs.Writes.{length-word_bytes, length-short_bytes, word_first, short_first, word_past, short_past, word_front, short_front, written_twice}
 use Rattle.nb_record.proofs.Adding.{HasRoom}
 
@@ -79,16 +80,32 @@ flag_of out = cond out 1 0
 abbrev tail_of : Body → List ℕ
 tail_of b = b.at.x ∷ b.at.y ∷ b.at.z ∷ cast_unsigned w64 b.v.x ∷ cast_unsigned w64 b.v.y ∷ cast_unsigned w64 b.v.z ∷ []
 
--- the record, grouped from the right
+-- the words of a vector
+abbrev pub words_of : V3 → List ℕ
+words_of v = cast_unsigned w64 v.x ∷ cast_unsigned w64 v.y ∷ cast_unsigned w64 v.z ∷ []
+
+-- A vector is its words in a row: byteorder's bytes of a number are std's.
+pub vector_row : (v : V3) → vector_bytes v ≡ flat_map word_bytes (words_of v)
+unfolding word_bytes
+vector_row v = refl
+
+-- a body is its fields in a row
+pub body_row : (b : Body) → body_bytes b ≡ word_bytes b.id ++ short_bytes b.mass ++ short_bytes (flag_of b.out) ++ flat_map word_bytes (tail_of b)
+unfolding body_bytes word_bytes short_bytes
+body_row b = refl
+
+-- the fields, grouped from the right
 grouped : (b : Body) → body_bytes b ≡ word_bytes b.id ++ (short_bytes b.mass ++ (short_bytes (flag_of b.out) ++ flat_map word_bytes (tail_of b)))
 grouped b =
-    append_assoc (word_bytes b.id ++ short_bytes b.mass) (short_bytes (flag_of b.out)) (flat_map word_bytes (tail_of b))
+    body_row b
+    ∙ append_assoc (word_bytes b.id ++ short_bytes b.mass) (short_bytes (flag_of b.out)) (flat_map word_bytes (tail_of b))
     ∙ append_assoc (word_bytes b.id) (short_bytes b.mass) (short_bytes (flag_of b.out) ++ flat_map word_bytes (tail_of b))
 
-body_size : (b : Body) → length (body_bytes b) ≡ KICK_AT
+pub body_size : (b : Body) → length (body_bytes b) ≡ KICK_AT
 body_size b =
     omega (
       arith,
+      ap length (body_row b),
       length-append (word_bytes b.id ++ short_bytes b.mass ++ short_bytes (flag_of b.out)) (flat_map word_bytes (tail_of b)),
       length-append (word_bytes b.id ++ short_bytes b.mass) (short_bytes (flag_of b.out)),
       length-append (word_bytes b.id) (short_bytes b.mass),
@@ -144,7 +161,7 @@ body_mass b fits =
 body_id : (b : Body) → b.id < 2 ^ 64 → word 0 (body_bytes b) ≡ b.id
 body_id b fits = ap (word 0) (grouped b) ∙ word_first b.id (short_bytes b.mass ++ (short_bytes (flag_of b.out) ++ flat_map word_bytes (tail_of b))) fits
 
-body_round : (b : Body) → FitsBodyRecord b → body_of (body_bytes b) ≡ b
+pub body_round : (b : Body) → FitsBodyRecord b → body_of (body_bytes b) ≡ b
 body_round b fits =
     let from_vz = cast_unsigned w64 b.v.z ∷ [] in
     let from_vy = cast_unsigned w64 b.v.y ∷ from_vz in
@@ -176,15 +193,11 @@ body_round b fits =
 
 -- ---- kicks
 
--- the words of a kick
-abbrev kick_words : V3 → List ℕ
-kick_words kick = cast_unsigned w64 kick.x ∷ cast_unsigned w64 kick.y ∷ cast_unsigned w64 kick.z ∷ []
-
-kick_size : (kick : V3) → length (kick_bytes kick) ≡ BODY_SIZE - KICK_AT
-kick_size kick = row_length (kick_words kick)
+kick_size : (kick : V3) → length (vector_bytes kick) ≡ BODY_SIZE - KICK_AT
+kick_size kick = ap length (vector_row kick) ∙ row_length (words_of kick)
 
 pub record_size : (b : Body) (kick : V3) → length (record_bytes b kick) ≡ BODY_SIZE
-record_size b kick = omega (arith, length-append (body_bytes b) (kick_bytes kick), body_size b, kick_size kick)
+record_size b kick = omega (arith, length-append (body_bytes b) (vector_bytes kick), body_size b, kick_size kick)
 
 -- what stands behind a body's bytes leaves what they say
 body_front : (b : Body) (rest : List ℕ) → body_of (body_bytes b ++ rest) ≡ body_of (body_bytes b)
@@ -208,17 +221,17 @@ body_front b rest =
     }
 
 pub record_body : (b : Body) (kick : V3) → FitsBodyRecord b → body_of (record_bytes b kick) ≡ b
-record_body b kick fits = body_front b (kick_bytes kick) ∙ body_round b fits
+record_body b kick fits = body_front b (vector_bytes kick) ∙ body_round b fits
 
 -- an axis of a kick fits its word
 axis_fits : (z : ℤ) → unsigned_abs z < kick_limit → FitsSigned w64 z
 axis_fits z below = fits_signed_from_abs w64 z (omega arith)
 
 -- a word of the kick, read as a number with a sign
-kick_axis : (b : Body) (kick : V3) (k : ℕ) (z : ℤ) → unsigned_abs z < kick_limit → word k (kick_bytes kick) ≡ cast_unsigned w64 z
+kick_axis : (b : Body) (kick : V3) (k : ℕ) (z : ℤ) → unsigned_abs z < kick_limit → word k (vector_bytes kick) ≡ cast_unsigned w64 z
     → signed_word (KICK_AT + k) (record_bytes b kick) ≡ z
 kick_axis b kick k z below is =
-    ap (cast_signed w64) (word_past (body_bytes b) (kick_bytes kick) KICK_AT k (body_size b) ∙ is)
+    ap (cast_signed w64) (word_past (body_bytes b) (vector_bytes kick) KICK_AT k (body_size b) ∙ is)
     ∙ to_z-of_z w64 z (axis_fits z below)
 
 pub record_kick : (b : Body) (kick : V3) → IsBelow kick_limit kick → kick_of (record_bytes b kick) ≡ kick
@@ -226,9 +239,9 @@ record_kick b kick below =
     let ux = cast_unsigned w64 kick.x in
     let uy = cast_unsigned w64 kick.y in
     let uz = cast_unsigned w64 kick.z in
-    let wx = word_0 ux (uy ∷ uz ∷ []) (unsigned_fits kick.x (axis_fits kick.x below.x)) in
-    let wy = word_more 0 ux uy (uy ∷ uz ∷ []) (word_0 uy (uz ∷ []) (unsigned_fits kick.y (axis_fits kick.y below.y))) in
-    let wz = word_more 8 ux uz (uy ∷ uz ∷ []) (word_more 0 uy uz (uz ∷ []) (word_0 uz [] (unsigned_fits kick.z (axis_fits kick.z below.z)))) in
+    let wx = ap (word 0) (vector_row kick) ∙ word_0 ux (uy ∷ uz ∷ []) (unsigned_fits kick.x (axis_fits kick.x below.x)) in
+    let wy = ap (word 8) (vector_row kick) ∙ word_more 0 ux uy (uy ∷ uz ∷ []) (word_0 uy (uz ∷ []) (unsigned_fits kick.y (axis_fits kick.y below.y))) in
+    let wz = ap (word 16) (vector_row kick) ∙ word_more 8 ux uz (uy ∷ uz ∷ []) (word_more 0 uy uz (uz ∷ []) (word_0 uz [] (unsigned_fits kick.z (axis_fits kick.z below.z)))) in
     let x = kick_axis b kick 0 kick.x below.x wx in
     let y = kick_axis b kick 8 kick.y below.y wy in
     let z = kick_axis b kick 16 kick.z below.z wz in
@@ -238,7 +251,7 @@ pub record_form : (b : Body) (kick : V3) → IsValidBody b → FitsBodyRecord b 
 record_form b kick valid fits below =
     let long = body_size b in
     record {
-      flag = omega (arith, short_front 12 (body_bytes b) (kick_bytes kick) (omega arith), body_flag b, flag_le b.out);
+      flag = omega (arith, short_front 12 (body_bytes b) (vector_bytes kick) (omega arith), body_flag b, flag_le b.out);
       body = subst IsValidBody (sym (record_body b kick fits)) valid;
       kick = subst (IsBelow kick_limit) (sym (record_kick b kick below)) below;
     }
@@ -248,9 +261,9 @@ record_room b kick bytes long room = record { fits = record_size b kick; room = 
 
 -- a body and its kick, written one behind the other, are the record
 pub two_writes : (at : ℕ) (bytes : List ℕ) (b : Body) (kick : V3) → at + BODY_SIZE ≤ length bytes
-    → written (at + KICK_AT) (kick_bytes kick) (written at (body_bytes b) bytes) ≡ written at (record_bytes b kick) bytes
+    → written (at + KICK_AT) (vector_bytes kick) (written at (body_bytes b) bytes) ≡ written at (record_bytes b kick) bytes
 two_writes at bytes b kick within =
-    written_twice at (body_bytes b) (kick_bytes kick) bytes (at + KICK_AT) (omega (arith, body_size b)) (omega arith) (omega arith)
+    written_twice at (body_bytes b) (vector_bytes kick) bytes (at + KICK_AT) (omega (arith, body_size b)) (omega arith) (omega arith)
 
 -- four fields, written one behind the other, are the record
 pub four_writes : (at : ℕ) (bytes id mass flag row : List ℕ) → at + KICK_AT ≤ length bytes → length id ≡ 8 → length mass ≡ 4 → length flag ≡ 4

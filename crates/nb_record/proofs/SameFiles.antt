@@ -367,12 +367,12 @@ same_file a b kick bodies are_a are_b padded_a padded_b has_a has_b = same_pages
             let index = BODIES_PER_PAGE * p + i in
             let small_i : i < BODIES_PER_PAGE = omega (arith, form_x.count) in
             let at_page : index / BODIES_PER_PAGE ≡ p = omega arith in
-            let at_place : index % BODIES_PER_PAGE ≡ i = omega arith in
+            let at_index : index % BODIES_PER_PAGE ≡ i = omega arith in
             let inside : index < length bodies = omega (arith, counts_x) in
             let same = same_record_byte (record_of a index) (record_of b index) (small-record a index sa) (small-record b index sb) (says index inside) j k in
             sym (record_byte x i j k)
             ∙ subst (λ q. get_or (body_record i (page_of a q)) j 0 ≡ get_or (body_record i (page_of b q)) j 0) at_page
-            (subst (λ r. get_or (body_record r (page_of a (index / BODIES_PER_PAGE))) j 0 ≡ get_or (body_record r (page_of b (index / BODIES_PER_PAGE))) j 0) at_place same)
+            (subst (λ r. get_or (body_record r (page_of a (index / BODIES_PER_PAGE))) j 0 ≡ get_or (body_record r (page_of b (index / BODIES_PER_PAGE))) j 0) at_index same)
             ∙ record_byte y i j k;
         padded = padded_a p (omega (arith, has_a.bodies.whole));
         also_padded = padded_b p (omega (arith, has_b.bodies.whole));

@@ -67,9 +67,9 @@ same_cells_same_list [] (y ∷ ys) left right into back =
     let none = back y (0, omega arith, refl) in
     absurd (omega (arith, none.1))
 same_cells_same_list (x ∷ xs) ys left right into back =
-    let place = into x (0, omega arith, refl) in
-    let rest = remove ys place.0 in
-    let moved : IsPermutation ys (x ∷ rest) = IsPermutation-remove ys place.0 x place.1 (sym place.2) in
+    let index = into x (0, omega arith, refl) in
+    let rest = remove ys index.0 in
+    let moved : IsPermutation ys (x ∷ rest) = IsPermutation-remove ys index.0 x index.1 (sym index.2) in
     let apart : AllPairs Differ (x ∷ rest) = AllPairs-permutation Differ differ_back ys (x ∷ rest) moved right in
     let same : IsPermutation xs rest =
     same_cells_same_list xs rest (tail_pairs Differ x xs left) (tail_pairs Differ x rest apart)

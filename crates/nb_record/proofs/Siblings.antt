@@ -21,7 +21,7 @@ use Rattle.nb_record.specs.Cells.{first_body, in_cell}
 use Rattle.nb_record.proofs.Sorting.{Each, each_implied, each_sorted}
 use Rattle.nb_record.proofs.Splits.{length-sorted_by, is_below, isnt_below, filter_yes, each_kept}
 use Rattle.nb_record.proofs.Orders.{each_at}
-use Rattle.nb_record.proofs.Places.{next_key, next_above, Inside, lower, upper, cell_test, order_is, first_is, filter_on, filter_twice}
+use Rattle.nb_record.proofs.Ranges.{next_key, next_above, Inside, lower, upper, cell_test, order_is, first_is, filter_on, filter_twice}
 
 -- ---- the root, and the octants of a cell
 
@@ -165,7 +165,7 @@ next_octant level key octant later all is above before below stay here there non
     octants_still size (octant + 1) (later - (octant + 1)) (omega arith) (λ between least most. ap length (none between (omega arith) (omega arith))) in
     omega (arith, first_of_octant level key octant all is above (omega arith) stay here, first_of_octant level key later all is above below stay there, ap (λ n. sum_by size (take n octants)) steps, still, octants_more size octant (omega arith))
 
--- ---- the place of a body
+-- ---- the index of a body
 
 -- tests of a body before the cell, in it and behind it
 test_before : (t u e : Bool) → (not t && u) ≡ e → t ≡ true → e ≡ false
@@ -181,8 +181,8 @@ not_equal k key fails same = absurd (false_isnt_true (sym fails ∙ eq-eqb k key
   false_isnt_true : false ≡ true → ⊥
   false_isnt_true e = absurd (cc)
 
-pub place_in_cell : (level key : ℕ) (all : List Body) → IsKeyAt level key → Inside all → in_cell level key all ≢ [] → (j : ℕ) (b : Body) → slice_get (sorted_by by_key all) j ≡ Some b → (key_at level b.at ≡ key) ↔ ((first_body all (in_cell level key all) ≤ j) × (j < first_body all (in_cell level key all) + length (in_cell level key all)))
-place_in_cell level key all is stay some j b there = (into, back) where
+pub index_in_cell : (level key : ℕ) (all : List Body) → IsKeyAt level key → Inside all → in_cell level key all ≢ [] → (j : ℕ) (b : Body) → slice_get (sorted_by by_key all) j ≡ Some b → (key_at level b.at ≡ key) ↔ ((first_body all (in_cell level key all) ≤ j) × (j < first_body all (in_cell level key all) + length (in_cell level key all)))
+index_in_cell level key all is stay some j b there = (into, back) where
   first : ℕ
   first = first_body all (in_cell level key all)
 

@@ -136,9 +136,9 @@ each_sorted P rank [] each = subst (Each P) (sym (sorted_nil rank)) tt
 each_sorted P rank (b ∷ bs) each =
     subst (Each P) (sym (sorted_cons rank b bs)) (each_inserted P rank b (sorted_by rank bs) each.0 (each_sorted P rank bs each.1))
 
-each_by_place : (P : Body → Type 0) (bs : List Body) → ((k : ℕ) (d : Body) → k < length bs → P (get_or bs k d)) → Each P bs
-each_by_place P [] at = tt
-each_by_place P (b ∷ bs) at = (at 0 b (omega arith), each_by_place P bs (λ k d below. at (suc k) d (omega arith)))
+each_by_index : (P : Body → Type 0) (bs : List Body) → ((k : ℕ) (d : Body) → k < length bs → P (get_or bs k d)) → Each P bs
+each_by_index P [] at = tt
+each_by_index P (b ∷ bs) at = (at 0 b (omega arith), each_by_index P bs (λ k d below. at (suc k) d (omega arith)))
 
 -- each body differs from all behind it
 abbrev pub Apart : (Body → ℕ) → List Body → Type 0
@@ -148,7 +148,7 @@ Apart rank (b ∷ bs) = Each (Differ rank b) bs × Apart rank bs
 pub apart_by_ids : (rank : Body → ℕ) (bs : List Body) → HaveDifferentIds bs → Apart rank bs
 apart_by_ids rank [] different = tt
 apart_by_ids rank (b ∷ bs) different = (
-  each_by_place (Differ rank b) bs (λ k d below _. different 0 (suc k) d (omega arith) (omega arith)),
+  each_by_index (Differ rank b) bs (λ k d below _. different 0 (suc k) d (omega arith) (omega arith)),
   apart_by_ids rank bs (λ i j d before within. different (suc i) (suc j) d (omega arith) (omega arith)),
 )
 
@@ -245,22 +245,22 @@ abbrev pub In : Body → List Body → Type 0
 In z [] = ⊥
 In z (b ∷ bs) = (z ≡ b) ⊎ In z bs
 
-in_from_place : (z : Body) (bs : List Body) (k : ℕ) → k < length bs → get_or bs k z ≡ z → In z bs
-in_from_place z [] k below is = absurd (omega arith)
-in_from_place z (b ∷ bs) zero below is = inl (sym is)
-in_from_place z (b ∷ bs) (suc k) below is = inr (in_from_place z bs k (omega arith) is)
+in_from_index : (z : Body) (bs : List Body) (k : ℕ) → k < length bs → get_or bs k z ≡ z → In z bs
+in_from_index z [] k below is = absurd (omega arith)
+in_from_index z (b ∷ bs) zero below is = inl (sym is)
+in_from_index z (b ∷ bs) (suc k) below is = inr (in_from_index z bs k (omega arith) is)
 
 contained : (z : Body) (bs : List Body) → In z bs → Contains bs z
 contained z [] is = absurd is
 contained z (b ∷ bs) (inl here) = (0, omega arith, sym here)
 contained z (b ∷ bs) (inr behind) =
-    let place = contained z bs behind in
-    (suc place.0, omega (arith, place.1), place.2)
+    let index = contained z bs behind in
+    (suc index.0, omega (arith, index.1), index.2)
 
 moved : (xs ys : List Body) → IsPermutation xs ys → (z : Body) → In z xs → In z ys
 moved xs ys is z within =
-    let place = Contains-permutation xs ys z is (contained z xs within) in
-    in_from_place z ys place.0 place.1 place.2
+    let index = Contains-permutation xs ys z is (contained z xs within) in
+    in_from_index z ys index.0 index.1 index.2
 
 pub each_in : (P : Body → Type 0) (z : Body) (bs : List Body) → Each P bs → In z bs → P z
 each_in P z [] each within = absurd within

@@ -18,7 +18,7 @@ use Rattle.nb_record.specs.declared.cell.Cell.{Cell}
 use Rattle.nb_record.specs.Records.{IsCell}
 use Rattle.nb_record.specs.Cells.{in_cell, tree_cells, IsTreeCell}
 use Rattle.nb_record.proofs.Kids.{kids_of-lt}
-use Rattle.nb_record.proofs.Places.{Inside, inside_box, range_within}
+use Rattle.nb_record.proofs.Ranges.{Inside, inside_box, range_within}
 use Rattle.nb_record.proofs.TreeCells.{OfTree, each_of_tree}
 use Rattle.nb_record.proofs.TreeFound.{root_reached}
 

@@ -8,14 +8,14 @@ use Rattle.nb_record.specs.Fields.{word}
 use Rattle.nb_record.specs.Pages.{page_count, page_next, read_cell_page}
 use Rattle.nb_record.specs.Records.{cell_record, cell_of, IsCell}
 
--- the place of the first of the n records from record i on that has this key
+-- the index of the first of the n records from record i on that has this key
 unfoldable pub find_key : ℕ → ℕ → ℕ → List ℕ → Option ℕ
 find_key zero i key bytes = None
 find_key (suc n) i key bytes = if word 0 (cell_record i bytes) == key then Some i else find_key n (suc i) key bytes
 
--- the place of the first record of a page that has this key
-abbrev pub place_of_key : ℕ → List ℕ → Option ℕ
-place_of_key key bytes = find_key (page_count bytes) 0 key bytes
+-- the index of the first record of a page that has this key
+abbrev pub index_of_key : ℕ → List ℕ → Option ℕ
+index_of_key key bytes = find_key (page_count bytes) 0 key bytes
 
 -- The page has the form. Where it has the key, its record is found, or is bad where it isn't of the form. Where it
 -- lacks the key, the next page is to be looked at, or the key is gone where there is none.
@@ -28,7 +28,7 @@ IsLookOn page bytes None look = look ≡ (if page_next bytes == 0 then Gone else
 -- a page whose header isn't of the form is bad
 abbrev pub IsLookAt : ℕ → ℕ → Result (List ℕ) PageError → Look → Type 0
 IsLookAt key page (Err _) look = look ≡ Bad page
-IsLookAt key page (Ok bytes) look = IsLookOn page bytes (place_of_key key bytes) look
+IsLookAt key page (Ok bytes) look = IsLookOn page bytes (index_of_key key bytes) look
 
 -- a page that isn't shown is wanted
 abbrev pub IsLook : ℕ → ℕ → Option (List ℕ) → Look → Type 0

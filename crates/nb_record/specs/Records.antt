@@ -1,21 +1,23 @@
 -- The records of a page, behind its header.
 --
 -- A body's record: 0 to 7 the id; 8 to 11 the mass; 12 to 15 the flag, 1 for a body that has left the box and else 0;
--- 16 to 39 the position; 40 to 63 the velocity; 64 to 87 the kick that the body got last.
+-- 16 to 39 the position; 40 to 63 the velocity; 64 to 87 the kick that the body got last. `nb_model` has the bytes of a body
+-- and of a vector, as a snapshot has them too.
 --
 -- A cell's record: 0 to 7 the key; 8 to 15 the mass; 16 to 39 the centre; 40 to 47 the number of its first body; 48 to 55
 -- the count of its bodies; 56 to 63 the kids, a bit for each octant that isn't empty, and 0 for a leaf.
-use Rattle.std.specs.Prelude.{◌≡◌, ℕ, zero, suc, ◌+◌, ◌*◌, ◌^◌, ◌<◌, ◌≤◌, ◌==◌, if◌then◌else◌, List, [], ◌∷◌, ◌++◌, take, drop, FitsSigned}
-use Rattle.std.specs.Int.{w64, cast_unsigned}
+use Rattle.std.specs.Prelude.{◌≡◌, ℕ, zero, suc, ◌+◌, ◌*◌, ◌^◌, ◌<◌, ◌≤◌, ◌==◌, List, [], ◌∷◌, ◌++◌, take, drop, FitsSigned}
+use Rattle.std.specs.Int.{w64}
 use Rattle.std.specs.List.{flat_map}
 use Rattle.nb_model.specs.declared.body.V3.{V3}
 use Rattle.nb_model.specs.declared.body.Body.{Body}
 use Rattle.nb_model.specs.Limits.{deepest_level, kick_limit, most_bodies}
+use Rattle.nb_model.specs.Bytes.{body_bytes, vector_bytes}
 use Rattle.nb_model.specs.Valid.{IsInBox, IsBelow, IsValidBody}
 use Rattle.nb_key.specs.Morton.{IsKey}
 use Rattle.nb_record.specs.declared.cell.Cell.{Cell}
 use Rattle.nb_record.specs.declared.sizes.TheConstants.{HEADER_SIZE, BODY_SIZE, CELL_SIZE, KICK_AT}
-use Rattle.nb_record.specs.Fields.{word, short, signed_word, word_bytes, short_bytes}
+use Rattle.nb_record.specs.Fields.{word, short, signed_word, word_bytes}
 use Rattle.nb_record.specs.Pages.{page_count}
 
 -- ---- bodies
@@ -44,19 +46,9 @@ pub record IsBodyRecord (bytes : List ℕ) : Type 0 where
   pub body : IsValidBody (body_of bytes)
   pub kick : IsBelow kick_limit (kick_of bytes)
 
--- the bytes of a body
-abbrev pub body_bytes : Body → List ℕ
-body_bytes b =
-    word_bytes b.id ++ short_bytes b.mass ++ short_bytes (if b.out then 1 else 0)
-    ++ flat_map word_bytes (b.at.x ∷ b.at.y ∷ b.at.z ∷ cast_unsigned w64 b.v.x ∷ cast_unsigned w64 b.v.y ∷ cast_unsigned w64 b.v.z ∷ [])
-
--- the bytes of a kick
-abbrev pub kick_bytes : V3 → List ℕ
-kick_bytes kick = flat_map word_bytes (cast_unsigned w64 kick.x ∷ cast_unsigned w64 kick.y ∷ cast_unsigned w64 kick.z ∷ [])
-
 -- the record of a body with its kick
 abbrev pub record_bytes : Body → V3 → List ℕ
-record_bytes b kick = body_bytes b ++ kick_bytes kick
+record_bytes b kick = body_bytes b ++ vector_bytes kick
 
 -- the first n bodies of a page
 unfoldable pub first_bodies : ℕ → List ℕ → List Body
@@ -66,7 +58,7 @@ first_bodies (suc n) bytes = first_bodies n bytes ++ body_of (body_record n byte
 abbrev pub bodies_of : List ℕ → List Body
 bodies_of bytes = first_bodies (page_count bytes) bytes
 
--- a body whose numbers fit their places in a record, as those of the code do
+-- a body whose numbers fit their fields in a record, as those of the code do
 pub record FitsBodyRecord (b : Body) : Type 0 where
   pub id : b.id < 2 ^ 64
   pub mass : b.mass < 2 ^ 32
@@ -110,7 +102,7 @@ pub record IsCell (cell : Cell) : Type 0 where
 abbrev pub cell_bytes : Cell → List ℕ
 cell_bytes c = flat_map word_bytes (c.key ∷ c.mass ∷ c.centre.x ∷ c.centre.y ∷ c.centre.z ∷ c.first ∷ c.count ∷ c.kids ∷ [])
 
--- a cell whose numbers fit their places in a record, as those of the code do
+-- a cell whose numbers fit their fields in a record, as those of the code do
 pub record FitsCellRecord (cell : Cell) : Type 0 where
   pub key : cell.key < 2 ^ 64
   pub mass : cell.mass < 2 ^ 64

@@ -1,9 +1,9 @@
 //! A page of bodies in borrowed bytes.
 
-ghost use Rattle.std.specs.Prelude.{◌≡◌, ◌<◌, ◌≤◌, ◌↔◌, IsTrue, length, MatchOption, IfOk};
+ghost use Rattle.std.specs.Prelude.{◌≡◌, ◌<◌, ◌≤◌, length, MatchOption, IfOk};
 ghost use Rattle.nb_model.specs.declared.body.Body.{Body};
-ghost use Rattle.nb_model.specs.Limits.{kick_limit, speed_limit};
-ghost use Rattle.nb_model.specs.Valid.{IsInBox, IsBelow, IsValidBody};
+ghost use Rattle.nb_model.specs.Limits.{kick_limit};
+ghost use Rattle.nb_model.specs.Valid.{IsBelow};
 ghost use Rattle.nb_record.specs.Pages.{page_count, read_body_page, IsBodyPage};
 ghost use Rattle.nb_record.specs.Records.{body_record, body_of, kick_of, IsBodyRecord};
 
@@ -11,10 +11,10 @@ use crate::fields::{WORD, short_at, signed_word_at, word_at};
 use crate::header::{COUNT_AT, NEXT_AT, NO_PAGE, NUMBER_AT, PageError, ZEROS_AT};
 use crate::sizes::{BODIES_PER_PAGE, BODY_SIZE, HEADER_SIZE, KICK_AT};
 use nb_host::PAGE_SIZE;
-use nb_model::{At, BOX_SIDE, Body, KICK_LIMIT, SPEED_LIMIT, V3};
+use nb_model::{At, Body, KICK_LIMIT, V3};
 use std::marker::Model;
 
-// The places of a body's fields, in bytes.
+// The offsets of a body's fields in its record.
 pub(crate) const ID_AT: usize = 0;
 
 pub(crate) const MASS_AT: usize = 8;
@@ -112,8 +112,8 @@ impl<'a> BodyPage<'a> {
         ensures length { length result.now ≡ BODY_SIZE }
     {
         let bytes = self.bytes;
-        let at = HEADER_SIZE + BODY_SIZE * i as usize;
-        &bytes[at..at + BODY_SIZE]
+        let offset = HEADER_SIZE + BODY_SIZE * i as usize;
+        &bytes[offset..offset + BODY_SIZE]
     }
 }
 
@@ -142,10 +142,10 @@ fn read_body(bytes: &[u8]) -> Option<Body>
             z: signed_word_at(bytes, VELOCITY_Z_AT),
         },
     };
-    if !is_valid(&body) {
+    if !body.is_valid() {
         return None;
     }
-    if !is_below(&read_kick(bytes), KICK_LIMIT) {
+    if !read_kick(bytes).is_below(KICK_LIMIT) {
         return None;
     }
     Some(body)
@@ -161,25 +161,4 @@ fn read_kick(bytes: &[u8]) -> V3
         y: signed_word_at(bytes, KICK_AT + WORD),
         z: signed_word_at(bytes, KICK_AT + 2 * WORD),
     }
-}
-
-/// Whether a body is valid.
-fn is_valid(body: &Body) -> bool
-    ensures { IsTrue result ↔ IsValidBody body.now }
-{
-    1 <= body.mass && is_in_box(&body.at) && (body.out || is_below(&body.v, SPEED_LIMIT))
-}
-
-/// Whether each coordinate is below the side of the box.
-fn is_in_box(at: &At) -> bool
-    ensures { IsTrue result ↔ IsInBox at.now }
-{
-    at.x < BOX_SIDE && at.y < BOX_SIDE && at.z < BOX_SIDE
-}
-
-/// Whether each axis is, in size, below a limit.
-fn is_below(v: &V3, limit: u64) -> bool
-    ensures { IsTrue result ↔ IsBelow limit v.now }
-{
-    v.x.unsigned_abs() < limit && v.y.unsigned_abs() < limit && v.z.unsigned_abs() < limit
 }

@@ -9,10 +9,10 @@ ghost use Rattle.nb_record.specs.Records.{cell_of, IsCell};
 use crate::fields::word_at;
 use crate::sizes::CELL_SIZE;
 use nb_key::Key;
-use nb_model::{At, BOX_SIDE, DEEPEST_LEVEL, MOST_BODIES};
+use nb_model::{At, DEEPEST_LEVEL, MOST_BODIES};
 use std::marker::Model;
 
-// The places of the fields, in bytes.
+// The offsets of the fields in the record.
 pub(crate) const KEY_AT: usize = 0;
 
 const MASS_AT: usize = 8;
@@ -154,14 +154,15 @@ fn is_cell(bytes: &[u8]) -> bool
         return false;
     }
     let mass = word_at(bytes, MASS_AT);
-    let x = word_at(bytes, X_AT);
-    let y = word_at(bytes, Y_AT);
-    let z = word_at(bytes, Z_AT);
+    let centre = At {
+        x: word_at(bytes, X_AT),
+        y: word_at(bytes, Y_AT),
+        z: word_at(bytes, Z_AT),
+    };
     let first = word_at(bytes, FIRST_AT);
     let count = word_at(bytes, COUNT_AT);
     let kids = word_at(bytes, KIDS_AT);
-    let is_centre = x < BOX_SIDE && y < BOX_SIDE && z < BOX_SIDE;
     let are_bodies = first < MOST_BODIES && 1 <= count && count <= MOST_BODIES;
     let are_kids = kids == 0 || kids < KIDS_LIMIT && number < DEEPEST_KEYS;
-    1 <= mass && mass <= MOST_MASS && is_centre && are_bodies && are_kids
+    1 <= mass && mass <= MOST_MASS && centre.is_in_box() && are_bodies && are_kids
 }

@@ -4,7 +4,7 @@ ghost use Rattle.std.specs.Prelude.{◌≡◌, ◌<◌, ◌≤◌, length, Match
 ghost use Rattle.nb_record.specs.Fields.{word};
 ghost use Rattle.nb_record.specs.Pages.{page_count, page_next, read_cell_page, IsCellPage};
 ghost use Rattle.nb_record.specs.Records.{cell_record, cell_of, IsCell};
-ghost use Rattle.nb_record.specs.Looking.{place_of_key};
+ghost use Rattle.nb_record.specs.Looking.{index_of_key};
 
 use crate::cell::{CellView, KEY_AT};
 use crate::fields::word_at;
@@ -89,9 +89,9 @@ impl<'a> CellPage<'a> {
         CellView::of(self.record(i))
     }
 
-    /// The place of the first record with this key.
-    pub(crate) fn place_of(&self, key: Key) -> Option<u64>
-        ensures place { result ≡ place_of_key key self.now }
+    /// The index of the first record with this key.
+    pub(crate) fn index_of(&self, key: Key) -> Option<u64>
+        ensures index { result ≡ index_of_key key self.now }
         ensures range { IfSome result (λ i. i < page_count self.now) }
         ensures found { IfSome result (λ i. word 0 (cell_record i self.now) ≡ key) }
     {
@@ -112,7 +112,7 @@ impl<'a> CellPage<'a> {
         ensures length { length result.now ≡ CELL_SIZE }
     {
         let bytes = self.bytes;
-        let at = HEADER_SIZE + CELL_SIZE * i as usize;
-        &bytes[at..at + CELL_SIZE]
+        let offset = HEADER_SIZE + CELL_SIZE * i as usize;
+        &bytes[offset..offset + CELL_SIZE]
     }
 }

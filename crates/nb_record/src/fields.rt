@@ -1,4 +1,4 @@
-//! The fields of a page, each at its place in bytes. Numbers are little-endian.
+//! The fields of a page, each at its offset. Numbers are little-endian.
 
 ghost use Rattle.std.specs.Prelude.{◌≡◌, ℕ, ◌+◌, ◌*◌, ◌^◌, ◌<◌, ◌≤◌, length, slice_index};
 ghost use Rattle.std.specs.List.{flat_map};
@@ -12,56 +12,56 @@ pub(crate) const WORD: usize = 8;
 /// The length of a short word, in bytes.
 pub(crate) const SHORT: usize = 4;
 
-/// The number of the eight bytes from a place on.
+/// The number of the eight bytes from an offset on.
 #[tactic(auto, unfolding(crate::specs::Fields::word))]
-pub(crate) fn word_at(bytes: &[u8], at: usize) -> u64
-    requires { at + 8 ≤ length bytes.now }
-    ensures { result ≡ word at bytes.now }
+pub(crate) fn word_at(bytes: &[u8], offset: usize) -> u64
+    requires { offset + 8 ≤ length bytes.now }
+    ensures { result ≡ word offset bytes.now }
 {
-    LittleEndian::read_u64(&bytes[at..])
+    LittleEndian::read_u64(&bytes[offset..])
 }
 
-/// The number of the four bytes from a place on.
+/// The number of the four bytes from an offset on.
 #[tactic(auto, unfolding(crate::specs::Fields::short))]
-pub(crate) fn short_at(bytes: &[u8], at: usize) -> u32
-    requires { at + 4 ≤ length bytes.now }
-    ensures { result ≡ short at bytes.now }
+pub(crate) fn short_at(bytes: &[u8], offset: usize) -> u32
+    requires { offset + 4 ≤ length bytes.now }
+    ensures { result ≡ short offset bytes.now }
 {
-    LittleEndian::read_u32(&bytes[at..])
+    LittleEndian::read_u32(&bytes[offset..])
 }
 
-/// The signed number of the eight bytes from a place on, in two's complement.
-pub(crate) fn signed_word_at(bytes: &[u8], at: usize) -> i64
-    requires { at + 8 ≤ length bytes.now }
-    ensures { result ≡ signed_word at bytes.now }
+/// The signed number of the eight bytes from an offset on, in two's complement.
+pub(crate) fn signed_word_at(bytes: &[u8], offset: usize) -> i64
+    requires { offset + 8 ≤ length bytes.now }
+    ensures { result ≡ signed_word offset bytes.now }
 {
-    word_at(bytes, at).cast_signed()
+    word_at(bytes, offset).cast_signed()
 }
 
-/// Writes a number into the eight bytes from a place on.
+/// Writes a number into the eight bytes from an offset on.
 #[tactic(auto, unfolding(crate::specs::Fields::word_bytes))]
-pub(crate) fn put_word(into: &mut [u8], at: usize, number: u64)
-    requires { at + 8 ≤ length into.old }
-    ensures { into.new ≡ written at (word_bytes number) into.old }
+pub(crate) fn put_word(into: &mut [u8], offset: usize, number: u64)
+    requires { offset + 8 ≤ length into.old }
+    ensures { into.new ≡ written offset (word_bytes number) into.old }
 {
-    LittleEndian::write_u64(&mut into[at..at + WORD], number);
+    LittleEndian::write_u64(&mut into[offset..offset + WORD], number);
 }
 
-/// Writes a number into the four bytes from a place on.
+/// Writes a number into the four bytes from an offset on.
 #[tactic(auto, unfolding(crate::specs::Fields::short_bytes))]
-pub(crate) fn put_short(into: &mut [u8], at: usize, number: u32)
-    requires { at + 4 ≤ length into.old }
-    ensures { into.new ≡ written at (short_bytes number) into.old }
+pub(crate) fn put_short(into: &mut [u8], offset: usize, number: u32)
+    requires { offset + 4 ≤ length into.old }
+    ensures { into.new ≡ written offset (short_bytes number) into.old }
 {
-    LittleEndian::write_u32(&mut into[at..at + SHORT], number);
+    LittleEndian::write_u32(&mut into[offset..offset + SHORT], number);
 }
 
-/// Writes numbers into the bytes from a place on, eight bytes each.
+/// Writes numbers into the bytes from an offset on, eight bytes each.
 #[tactic(auto, unfolding(crate::specs::Fields::word_bytes))]
-pub(crate) fn put_words(into: &mut [u8], at: usize, words: &[u64])
-    requires { at + 8 * length words.now ≤ length into.old }
-    ensures bytes { into.new ≡ written at (flat_map word_bytes words.now) into.old }
+pub(crate) fn put_words(into: &mut [u8], offset: usize, words: &[u64])
+    requires { offset + 8 * length words.now ≤ length into.old }
+    ensures bytes { into.new ≡ written offset (flat_map word_bytes words.now) into.old }
     ensures fits { (i : ℕ) → slice_index words.now i < 2 ^ 64 }
 {
-    LittleEndian::write_u64_into(words, &mut into[at..at + WORD * words.len()]);
+    LittleEndian::write_u64_into(words, &mut into[offset..offset + WORD * words.len()]);
 }

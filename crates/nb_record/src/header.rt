@@ -1,13 +1,13 @@
 //! The header of a page: its number, its count of records and its next page.
 
-// The places of the fields, in bytes.
+// The offsets of the fields.
 pub(crate) const NUMBER_AT: usize = 0;
 
 pub(crate) const COUNT_AT: usize = 8;
 
 pub(crate) const NEXT_AT: usize = 16;
 
-/// Where eight zeros stand.
+/// The offset of eight zeros.
 pub(crate) const ZEROS_AT: usize = 24;
 
 /// The next page's number where there is none.

@@ -6,6 +6,7 @@ ghost use Rattle.std.specs.Prelude.{length, map, take, slice_get, All, Contains,
 ghost use Rattle.std.specs.List.Sorted.{IsStrictlyIncreasing};
 ghost use Rattle.nb_model.specs.declared.body.V3.{V3};
 ghost use Rattle.nb_model.specs.declared.body.Body.{Body};
+ghost use Rattle.nb_model.specs.Bytes.{body_bytes};
 ghost use Rattle.nb_model.specs.Limits.{kick_limit};
 ghost use Rattle.nb_model.specs.Valid.{IsBelow, IsValidBody};
 ghost use Rattle.nb_model.specs.Octree.{in_octant};
@@ -17,8 +18,8 @@ ghost use Rattle.nb_record.specs.Pages.{read_cell_page, read_body_page, IsCellPa
 ghost use Rattle.nb_record.specs.Records.{body_record, record_bytes, body_of, kick_of, bodies_of};
 ghost use Rattle.nb_record.specs.Records.{IsBodyRecord, FitsBodyRecord};
 ghost use Rattle.nb_record.specs.Records.{cell_record, cell_bytes, cell_of, cells_of, FitsCellRecord};
-ghost use Rattle.nb_record.specs.Looking.{place_of_key};
-ghost use Rattle.nb_record.specs.Order.{by_key, sorted_by, HaveDifferentIds, IsSortedByRank};
+ghost use Rattle.nb_record.specs.Looking.{index_of_key};
+ghost use Rattle.nb_record.specs.Order.{by_key, by_id, sorted_by, HaveDifferentIds, IsSortedByRank};
 ghost use Rattle.nb_host.specs.Page.{page_of};
 ghost use Rattle.nb_record.specs.Order.{pages_for, count_on, HoldsBodies, HoldsKickedBodies};
 ghost use Rattle.nb_record.specs.Writing.{IsZeroPadded, IsZeroPaddedFile, AreBytes};
@@ -42,8 +43,11 @@ pub fn law_cells()
     ensures size { (cell : Cell) → length (cell_bytes cell) ≡ CELL_SIZE }
 {}
 
-/// The record of a body and a kick says exactly these, and is of the form where the body is valid.
+/// The bytes of a body say the body. The record of a body and a kick says exactly these, and is of the form
+/// where the body is valid.
 pub fn law_bodies()
+    ensures bytes { (body : Body) → FitsBodyRecord body → body_of (body_bytes body) ≡ body }
+    ensures length { (body : Body) → length (body_bytes body) ≡ KICK_AT }
     ensures body { (body : Body) (kick : V3) → FitsBodyRecord body
         → body_of (record_bytes body kick) ≡ body }
     ensures kick { (body : Body) (kick : V3) → IsBelow kick_limit kick
@@ -54,7 +58,8 @@ pub fn law_bodies()
 {}
 
 /// The sorted list has each body once. Where the ids differ, as ids that rise do, each body precedes the next
-/// in it. A list of the same bodies in which each precedes the next is the sorted one.
+/// in it. A list of the same bodies in which each precedes the next is the sorted one. A list whose ids rise
+/// is its own in the order of ids.
 pub fn law_sorted_by()
     ensures permutation { (rank : Body → ℕ) (bodies : List Body)
         → IsPermutation bodies (sorted_by rank bodies) }
@@ -64,23 +69,25 @@ pub fn law_sorted_by()
         → IsSortedByRank rank list → list ≡ sorted_by rank bodies }
     ensures ids { (bodies : List Body) → IsStrictlyIncreasing (map (λ b. b.id) bodies)
         → HaveDifferentIds bodies }
+    ensures by_id { (bodies : List Body) → IsStrictlyIncreasing (map (λ b. b.id) bodies)
+        → sorted_by by_id bodies ≡ bodies }
 {}
 
-/// A page of cells says as many cells as it counts, each at its place. The place of a key is that of the
+/// A page of cells says as many cells as it counts, each at its index. The index of a key is that of the
 /// first cell with it, and there is none exactly where no cell has it.
 pub fn law_page_cells()
     ensures count { (bytes : List ℕ) → length (cells_of bytes) ≡ page_count bytes }
     ensures cell { (bytes : List ℕ) (i : ℕ) → i < page_count bytes
         → slice_get (cells_of bytes) i ≡ Some (cell_of (cell_record i bytes)) }
-    ensures found { (bytes : List ℕ) (key i : ℕ) → place_of_key key bytes ≡ Some i
+    ensures found { (bytes : List ℕ) (key i : ℕ) → index_of_key key bytes ≡ Some i
         → (i < page_count bytes) × (word 0 (cell_record i bytes) ≡ key) }
-    ensures first { (bytes : List ℕ) (key i : ℕ) → place_of_key key bytes ≡ Some i
+    ensures first { (bytes : List ℕ) (key i : ℕ) → index_of_key key bytes ≡ Some i
         → (j : ℕ) → j < i → word 0 (cell_record j bytes) ≢ key }
     ensures lacks { (bytes : List ℕ) (key : ℕ)
-        → ((place_of_key key bytes ≡ None) ↔ All (λ cell. cell.key ≢ key) (cells_of bytes)) }
+        → ((index_of_key key bytes ≡ None) ↔ All (λ cell. cell.key ≢ key) (cells_of bytes)) }
 {}
 
-/// A page of bodies says as many bodies as it counts, each at its place.
+/// A page of bodies says as many bodies as it counts, each at its index.
 pub fn law_page_bodies()
     ensures count { (bytes : List ℕ) → length (bodies_of bytes) ≡ page_count bytes }
     ensures body { (bytes : List ℕ) (i : ℕ) → i < page_count bytes
@@ -113,7 +120,7 @@ pub fn law_morton_order()
 /// Body j of a file stands on one of the file's pages, at one of the page's records. A file holds one list.
 pub fn law_body_files()
     ensures page { (count j : ℕ) → j < count → j / BODIES_PER_PAGE < pages_for count }
-    ensures place { (count j : ℕ) → j < count
+    ensures index { (count j : ℕ) → j < count
         → j % BODIES_PER_PAGE < count_on count (j / BODIES_PER_PAGE) }
     ensures one { (file : List ℕ) (a b : List Body) → HoldsBodies file a → HoldsBodies file b
         → a ≡ b }
@@ -142,8 +149,9 @@ pub fn law_chains()
         → chain file pages p ≡ p ∷ chain file pages (next_of file p) }
 {}
 
-/// The chain of a key begins at a page of the file, and its cells, page by page, are cells of the table.
-/// Where none of them has the key, no cell of the table has it.
+/// The chain of a key begins at a page of the file, and its cells, page by page, are cells of the table, also
+/// from a page in its middle on. Each cell of the table stands on the chain of its key, so where none of the
+/// cells on the chain of a key has it, no cell of the table has it.
 pub fn law_lookups()
     ensures start { (file : List ℕ) (bits pages : ℕ) (cells : List Cell)
         → IsCellTable file bits pages cells → (key : ℕ) → key % 2 ^ bits < pages }
@@ -161,6 +169,15 @@ pub fn law_lookups()
         → IsCellTable file bits pages cells → (key : ℕ)
         → All (λ cell. cell.key ≢ key) (cells_on_chain file pages (key % 2 ^ bits))
         → All (λ cell. cell.key ≢ key) cells }
+    ensures stands { (file : List ℕ) (bits pages : ℕ) (cells : List Cell)
+        → IsCellTable file bits pages cells → (cell : Cell) → Contains cells cell
+        → Contains (cells_on_chain file pages (cell.key % 2 ^ bits)) cell }
+    ensures held_from { (file : List ℕ) (bits pages : ℕ) (cells : List Cell)
+        → IsCellTable file bits pages cells → (p : ℕ) → p < pages
+        → All (λ cell. Contains cells cell) (cells_on_chain file pages p) }
+    ensures held_on { (file : List ℕ) (bits pages : ℕ) (cells : List Cell)
+        → IsCellTable file bits pages cells → (p : ℕ) → p < pages
+        → All (λ cell. Contains cells cell) (cells_of (page_of file p)) }
 {}
 
 /// A cell's kids have a bit for each of the eight octants, which is set exactly where the octant isn't empty.

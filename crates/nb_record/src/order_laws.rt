@@ -25,7 +25,7 @@ pub fn law_order()
         ≡ sorted_by by_key (filter (λ b. b.out) bodies) }
     ensures present { (bodies : List Body)
         → All (λ b. b.out ≡ false) (take (length (in_box bodies)) (sorted_by by_key bodies)) }
-    ensures place { (bodies : List Body) (j : ℕ) → j < length (in_box bodies)
+    ensures index { (bodies : List Body) (j : ℕ) → j < length (in_box bodies)
         → slice_get (sorted_by by_key bodies) j ≡ slice_get (sorted_by by_key (in_box bodies)) j }
     ensures escaped { (bodies : List Body)
         → All (λ b. b.out ≡ true) (drop (length (in_box bodies)) (sorted_by by_key bodies)) }
@@ -42,7 +42,7 @@ pub fn law_order()
 
 /// The root cell has all bodies, and a cell's octants have those of its bodies that lie in them. The bodies
 /// of a cell that isn't empty are one range of the order: behind the bodies whose keys are below theirs, as
-/// many as the cell has, so that a body's place tells whether it is one of them. The octants follow one
+/// many as the cell has, so that a body's index tells whether it is one of them. The octants follow one
 /// another: the range of each begins where those of the octants before it end, which is the end of the last
 /// before it that isn't empty.
 pub fn law_in_cell()
@@ -60,7 +60,7 @@ pub fn law_in_cell()
     ensures within { (level key : ℕ) (bodies : List Body) → IsKeyAt level key
         → let all = in_box bodies in let cell = in_cell level key all in cell ≢ []
         → first_body all cell + length cell ≤ length all }
-    ensures place { (level key : ℕ) (bodies : List Body) → IsKeyAt level key
+    ensures index { (level key : ℕ) (bodies : List Body) → IsKeyAt level key
         → let all = in_box bodies in let cell = in_cell level key all in cell ≢ []
         → (j : ℕ) (b : Body) → slice_get (sorted_by by_key all) j ≡ Some b
         → ((key_at level b.at ≡ key)

@@ -2,7 +2,7 @@
 
 ghost use Rattle.std.specs.Prelude.{◌≡◌, ◌<◌, ◌==◌, if◌then◌else◌};
 ghost use Rattle.nb_record.specs.Records.{IsCell};
-ghost use Rattle.nb_record.specs.Looking.{place_of_key, IsLook, IsLookOn, IfFound, IfNext};
+ghost use Rattle.nb_record.specs.Looking.{index_of_key, IsLook, IsLookOn, IfFound, IfNext};
 
 use crate::answer::Look;
 use crate::cell_page::CellPage;
@@ -27,11 +27,11 @@ pub fn look<L: Lender>(lender: &L, key: Key, page: u64) -> Look<'_>
 
 /// Looks for a key on a page whose header is of the form.
 fn look_on<'a>(cells: &CellPage<'a>, key: Key, page: u64) -> Look<'a>
-    ensures look { IsLookOn page cells.now (place_of_key key cells.now) result }
+    ensures look { IsLookOn page cells.now (index_of_key key cells.now) result }
     ensures found { IfFound result IsCell }
     ensures wanted { IfFound result (λ cell. cell.key ≡ key) }
 {
-    match cells.place_of(key) {
+    match cells.index_of(key) {
         Some(i) => match cells.cell(i) {
             Some(cell) => Look::Found(cell),
             None => Look::Bad(page),

@@ -6,7 +6,7 @@ pub const HEADER_SIZE: usize = 32;
 /// The length of a body's record, in bytes: those of the body, and behind them the three words of its kick.
 pub const BODY_SIZE: usize = 88;
 
-/// Where in a body's record the kick begins, in bytes.
+/// The offset of the kick in a body's record.
 pub const KICK_AT: usize = 64;
 
 /// The length of a cell's record, in bytes.

@@ -1,6 +1,8 @@
 //! Pages with known answers.
 
 ghost use Rattle.std.specs.Prelude.{◌==◌, if◌then◌else◌, Some, None};
+ghost use Rattle.nb_model.specs.Limits.{kick_limit};
+ghost use Rattle.nb_model.specs.Valid.{IsBelow};
 
 use crate::{
     BodyPage, Cell, CellPage, Lender, Look, PageError, add_body, add_cell, begin_body_page,
@@ -92,6 +94,25 @@ fn a_look_for_a_key(rt: HostRuntime) -> Result<(), Fail> {
     Ok(())
 }
 
+/// Makes of the bytes page 4, with one body and its kick.
+fn put_on_page_4(bytes: &mut [u8; PAGE_SIZE], body: &Body, kick: &V3)
+    requires { IsBelow kick_limit kick.now }
+{
+    begin_body_page(bytes, 4);
+    add_body(bytes, body, kick);
+}
+
+/// How many bodies page 4 has, and the first of them with its kick.
+fn first_on_page_4(bytes: &[u8; PAGE_SIZE]) -> Option<(u64, Body, V3)> {
+    let page = BodyPage::check(bytes, 4).ok()?;
+    let count = page.count();
+    if count == 0 {
+        return None;
+    }
+    let body = page.body(0)?;
+    Some((count, body, page.kick(0)))
+}
+
 #[test]
 fn a_body_on_a_page(rt: HostRuntime) -> Result<(), Fail> {
     let body = Body {
@@ -101,65 +122,69 @@ fn a_body_on_a_page(rt: HostRuntime) -> Result<(), Fail> {
         at: At { x: 5, y: 6, z: 7 },
         v: V3 { x: -1, y: 2, z: 0 },
     };
-    let mut bytes = [255; PAGE_SIZE];
-    begin_body_page(&mut bytes, 4);
     let kick = V3 { x: 9, y: -2, z: 0 };
-    add_body(&mut bytes, &body, &kick);
-    assert_eq!(rt;
-        (bytes[0], bytes[8], bytes[32], bytes[40], bytes[48]),
-        (4, 1, 7, 3, 5)
-    );
-    assert_eq!(rt;
-        (bytes[71], bytes[72], bytes[79], bytes[80]),
-        (0, 255, 255, 2)
-    );
-    assert_eq!(rt;
-        (
-            bytes[96], bytes[103], bytes[104], bytes[111], bytes[119], bytes[120]
-        ),
-        (9, 0, 254, 255, 0, 0)
-    );
-    let page = BodyPage::check(&bytes, 4)
-        .ok()
-        .ok_or("the page is of the form")?;
-    assert_eq!(rt; page.count(), 1);
-    assert!(rt; 0 < page.count());
-    assert_eq!(rt; page.body(0), Some(body));
-    assert_eq!(rt; page.kick(0), kick);
+    let mut bytes = [255; PAGE_SIZE];
+    put_on_page_4(&mut bytes, &body, &kick);
+    // offsets, and the bytes there
+    let wanted = [
+        (0, 4),
+        (8, 1),
+        (32, 7),
+        (40, 3),
+        (48, 5),
+        (71, 0),
+        (72, 255),
+        (79, 255),
+        (80, 2),
+        (96, 9),
+        (103, 0),
+        (104, 254),
+        (111, 255),
+        (119, 0),
+        (120, 0),
+    ];
+    for (offset, byte) in wanted {
+        assert_eq!(rt; (offset, bytes.get(offset).copied()), (offset, Some(byte)));
+    }
+    assert_eq!(rt; first_on_page_4(&bytes), Some((1, body, kick)));
     bytes[103] = 16;
-    let page = BodyPage::check(&bytes, 4)
-        .ok()
-        .ok_or("the page is of the form")?;
-    assert!(rt; 0 < page.count());
-    assert_eq!(rt; page.body(0), None);
+    assert_eq!(rt; first_on_page_4(&bytes), None);
     bytes[103] = 0;
     bytes[44] = 2;
-    let page = BodyPage::check(&bytes, 4)
-        .ok()
-        .ok_or("the page is of the form")?;
-    assert!(rt; 0 < page.count());
-    assert_eq!(rt; page.body(0), None);
+    assert_eq!(rt; first_on_page_4(&bytes), None);
     Ok(())
+}
+
+/// What the checks of a page of cells and of a page of bodies refuse in page 2, with these bytes at the
+/// offsets 9, 16 and 24, where it is asked for under this number.
+fn refused(number: u64, count: u8, next: u8, zero: u8) -> [Option<PageError>; 2] {
+    let mut bytes = [0; PAGE_SIZE];
+    begin_cell_page(&mut bytes, 2);
+    bytes[9] = count;
+    bytes[16] = next;
+    bytes[24] = zero;
+    [
+        CellPage::check(&bytes, number).err(),
+        BodyPage::check(&bytes, number).err(),
+    ]
 }
 
 #[test]
 fn the_first_field_that_is_not_of_the_form(rt: HostRuntime) -> Result<(), Fail> {
-    let mut bytes = [0; PAGE_SIZE];
-    begin_cell_page(&mut bytes, 2);
-    assert!(rt; CellPage::check(&bytes, 2).is_ok());
-    bytes[24] = 1;
-    assert_eq!(rt; CellPage::check(&bytes, 2).err(), Some(PageError::Next));
-    bytes[24] = 0;
-    bytes[16] = 2;
-    assert_eq!(rt; CellPage::check(&bytes, 2).err(), Some(PageError::Next));
-    bytes[16] = 3;
-    assert!(rt; CellPage::check(&bytes, 2).is_ok());
-    assert_eq!(rt; BodyPage::check(&bytes, 2).err(), Some(PageError::Next));
-    bytes[9] = 1;
-    bytes[16] = 1;
-    assert_eq!(rt; CellPage::check(&bytes, 2).err(), Some(PageError::Count));
-    assert_eq!(rt; BodyPage::check(&bytes, 2).err(), Some(PageError::Count));
-    assert_eq!(rt; CellPage::check(&bytes, 1).err(), Some(PageError::Number));
-    assert_eq!(rt; BodyPage::check(&bytes, 1).err(), Some(PageError::Number));
+    let number = Some(PageError::Number);
+    let count = Some(PageError::Count);
+    let next = Some(PageError::Next);
+    // the number that is asked for, the bytes at the three offsets, and what is refused
+    let cases = [
+        (2, 0, 0, 0, [None, None]),
+        (2, 0, 0, 1, [next, next]),
+        (2, 0, 2, 0, [next, next]),
+        (2, 0, 3, 0, [None, next]),
+        (2, 1, 1, 0, [count, count]),
+        (1, 1, 1, 0, [number, number]),
+    ];
+    for (asked, high, later, zero, errors) in cases {
+        assert_eq!(rt; refused(asked, high, later, zero), errors);
+    }
     Ok(())
 }

@@ -2,14 +2,15 @@
 //! of bodies.
 
 ghost use Rattle.std.specs.Prelude.{◌≡◌, ◌≢◌, ◌⊎◌, ◌↔◌, ℕ, ◌+◌, ◌*◌, ◌/◌, ◌%◌, ◌^◌, ◌<◌, ◌≤◌};
-ghost use Rattle.std.specs.Prelude.{List, [], length, take, drop, All, AllPairs, Contains, IsPermutation};
+ghost use Rattle.std.specs.Prelude.{List, [], length, take, drop, sum_by};
+ghost use Rattle.std.specs.Prelude.{All, AllPairs, Contains, IsPermutation};
 ghost use Rattle.nb_model.specs.declared.body.At.{At};
 ghost use Rattle.nb_model.specs.declared.body.Body.{Body};
 ghost use Rattle.nb_model.specs.declared.params.Params.{Params};
 ghost use Rattle.nb_model.specs.declared.way.Way.{Way};
 ghost use Rattle.nb_model.specs.Limits.{deepest_level, most_bodies};
 ghost use Rattle.nb_model.specs.Valid.{IsValidBody};
-ghost use Rattle.nb_model.specs.Octree.{in_octant};
+ghost use Rattle.nb_model.specs.Octree.{in_octant, total_mass};
 ghost use Rattle.nb_model.specs.Gravity.{direct_sum};
 ghost use Rattle.nb_model.specs.Leapfrog.{in_box, kick};
 ghost use Rattle.nb_key.specs.Morton.{IsKeyAt};
@@ -70,7 +71,8 @@ pub fn law_kid_bits()
 {}
 
 /// The bodies of a cell of the tree, in the file of all bodies: as many as it says, from its first on. Taken
-/// as the file has them, they pull one by one as in any order.
+/// as the file has them, they pull one by one as in any order, any sum over them is that over the cell's
+/// bodies, and they have the cell's mass.
 pub fn law_cell_bodies()
     ensures within { (params : Params) (bodies : List Body) (level : ℕ) (cell : Cell)
         → IsTreeCell params (in_box bodies) level cell
@@ -83,6 +85,13 @@ pub fn law_cell_bodies()
         → IsTreeCell params (in_box bodies) level cell
         → direct_sum params p (take cell.count (drop cell.first (sorted_by by_key bodies)))
         ≡ direct_sum params p (in_cell level cell.key (in_box bodies)) }
+    ensures sums { (f : Body → ℕ) (params : Params) (bodies : List Body) (level : ℕ) (cell : Cell)
+        → IsTreeCell params (in_box bodies) level cell
+        → sum_by f (take cell.count (drop cell.first (sorted_by by_key bodies)))
+        ≡ sum_by f (in_cell level cell.key (in_box bodies)) }
+    ensures mass { (params : Params) (bodies : List Body) (level : ℕ) (cell : Cell)
+        → IsTreeCell params (in_box bodies) level cell
+        → total_mass (take cell.count (drop cell.first (sorted_by by_key bodies))) ≡ cell.mass }
 {}
 
 /// The cells of the tree of valid bodies are of the form.

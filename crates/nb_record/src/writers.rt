@@ -1,11 +1,12 @@
 //! The writers of a page. Each changes its record, its count or its next page, and no other byte.
 
 ghost use Rattle.std.specs.Prelude.{◌≡◌, ℕ, ◌+◌, ◌-◌, ◌<◌, ◌≤◌, [], ◌∷◌, ◌++◌, length, if◌then◌else◌};
+ghost use Rattle.nb_model.specs.Bytes.{body_bytes, vector_bytes};
 ghost use Rattle.nb_model.specs.Limits.{kick_limit};
 ghost use Rattle.nb_model.specs.Valid.{IsBelow, IsValidBody};
 ghost use Rattle.nb_record.specs.Fields.{word_bytes, written};
 ghost use Rattle.nb_record.specs.Pages.{page_number, page_count, page_next, IsCellPage, IsBodyPage};
-ghost use Rattle.nb_record.specs.Records.{body_record, body_bytes, kick_bytes, record_bytes};
+ghost use Rattle.nb_record.specs.Records.{body_record, record_bytes};
 ghost use Rattle.nb_record.specs.Records.{kick_of, bodies_of, IsBodyRecord, FitsBodyRecord};
 ghost use Rattle.nb_record.specs.Records.{cell_bytes, cells_of, FitsCellRecord};
 ghost use Rattle.nb_record.specs.Writing.{zero_page, empty_page, with_record, IsZeroPadded};
@@ -102,10 +103,10 @@ pub fn add_body(into: &mut [u8], body: &Body, kick: &V3)
     put_word(into, COUNT_AT, count + 1);
 }
 
-/// Writes a cell's record into the bytes from a place on.
-fn put_cell(into: &mut [u8], at: usize, cell: &Cell)
-    requires { at + CELL_SIZE ≤ length into.old }
-    ensures bytes { into.new ≡ written at (cell_bytes cell.now) into.old }
+/// Writes a cell's record into the bytes from an offset on.
+fn put_cell(into: &mut [u8], offset: usize, cell: &Cell)
+    requires { offset + CELL_SIZE ≤ length into.old }
+    ensures bytes { into.new ≡ written offset (cell_bytes cell.now) into.old }
     ensures fits { FitsCellRecord cell.now }
 {
     let words = [
@@ -118,28 +119,28 @@ fn put_cell(into: &mut [u8], at: usize, cell: &Cell)
         cell.count,
         u64::from(cell.kids),
     ];
-    put_words(into, at, &words);
+    put_words(into, offset, &words);
 }
 
-/// Writes the record of a body and its kick into the bytes from a place on.
-fn put_record(into: &mut [u8], at: usize, body: &Body, kick: &V3)
-    requires { at + BODY_SIZE ≤ length into.old }
-    ensures bytes { into.new ≡ written at (record_bytes body.now kick.now) into.old }
+/// Writes the record of a body and its kick into the bytes from an offset on.
+fn put_record(into: &mut [u8], offset: usize, body: &Body, kick: &V3)
+    requires { offset + BODY_SIZE ≤ length into.old }
+    ensures bytes { into.new ≡ written offset (record_bytes body.now kick.now) into.old }
     ensures fits { FitsBodyRecord body.now }
 {
-    put_body(into, at, body);
-    put_kick(into, at + KICK_AT, kick);
+    put_body(into, offset, body);
+    put_kick(into, offset + KICK_AT, kick);
 }
 
-/// Writes a body into the bytes from a place on.
-fn put_body(into: &mut [u8], at: usize, body: &Body)
-    requires { at + KICK_AT ≤ length into.old }
-    ensures bytes { into.new ≡ written at (body_bytes body.now) into.old }
+/// Writes a body into the bytes from an offset on.
+fn put_body(into: &mut [u8], offset: usize, body: &Body)
+    requires { offset + KICK_AT ≤ length into.old }
+    ensures bytes { into.new ≡ written offset (body_bytes body.now) into.old }
     ensures fits { FitsBodyRecord body.now }
 {
-    put_word(into, at + ID_AT, body.id);
-    put_short(into, at + MASS_AT, body.mass);
-    put_short(into, at + FLAG_AT, flag_of(body.out));
+    put_word(into, offset + ID_AT, body.id);
+    put_short(into, offset + MASS_AT, body.mass);
+    put_short(into, offset + FLAG_AT, flag_of(body.out));
     let words = [
         body.at.x,
         body.at.y,
@@ -148,20 +149,20 @@ fn put_body(into: &mut [u8], at: usize, body: &Body)
         body.v.y.cast_unsigned(),
         body.v.z.cast_unsigned(),
     ];
-    put_words(into, at + X_AT, &words);
+    put_words(into, offset + X_AT, &words);
 }
 
-/// Writes a kick into the bytes from a place on.
-fn put_kick(into: &mut [u8], at: usize, kick: &V3)
-    requires { at + (BODY_SIZE - KICK_AT) ≤ length into.old }
-    ensures { into.new ≡ written at (kick_bytes kick.now) into.old }
+/// Writes a kick into the bytes from an offset on.
+fn put_kick(into: &mut [u8], offset: usize, kick: &V3)
+    requires { offset + (BODY_SIZE - KICK_AT) ≤ length into.old }
+    ensures { into.new ≡ written offset (vector_bytes kick.now) into.old }
 {
     let words = [
         kick.x.cast_unsigned(),
         kick.y.cast_unsigned(),
         kick.z.cast_unsigned(),
     ];
-    put_words(into, at, &words);
+    put_words(into, offset, &words);
 }
 
 /// The flag of a body.

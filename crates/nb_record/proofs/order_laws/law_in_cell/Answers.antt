@@ -1,6 +1,6 @@
 use Rattle.nb_model.specs.Leapfrog.{in_box}
-use Rattle.nb_record.proofs.Places.{inside_box, cell_range, range_sum, range_within}
-use Rattle.nb_record.proofs.Siblings.{in_root, octant_of_cell, first_of_octant, next_octant, place_in_cell}
+use Rattle.nb_record.proofs.Ranges.{inside_box, cell_range, range_sum, range_within}
+use Rattle.nb_record.proofs.Siblings.{in_root, octant_of_cell, first_of_octant, next_octant, index_in_cell}
 use Rattle.nb_record.proofs.CellBodies.{member_of_cell}
 use Rattle.nb_record.proofs.order_laws.law_in_cell.Goals as goal
 
@@ -12,7 +12,7 @@ returns c = record {
   range = λ level key bodies is some. cell_range level key (in_box bodies) is (inside_box bodies) some;
   sums = λ f level key bodies is some. range_sum f level key (in_box bodies) is (inside_box bodies) some;
   within = λ level key bodies is some. range_within level key (in_box bodies) is (inside_box bodies) some;
-  place = λ level key bodies is some. place_in_cell level key (in_box bodies) is (inside_box bodies) some;
+  index = λ level key bodies is some. index_in_cell level key (in_box bodies) is (inside_box bodies) some;
   follows = λ level key octant bodies is above below some. first_of_octant level key octant (in_box bodies) is above below (inside_box bodies) some;
   next = λ level key octant later bodies is above before below. next_octant level key octant later (in_box bodies) is above before below (inside_box bodies);
 }

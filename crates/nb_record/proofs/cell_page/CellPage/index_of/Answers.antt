@@ -2,10 +2,10 @@ use Rattle.std.proofs.Common.{◌≡◌, sym, ◌∙◌, arith}
 use Rattle.nb_record.specs.Fields.{word}
 use Rattle.nb_record.specs.Records.{cell_record}
 use Rattle.nb_record.proofs.Searching.{find_here, find_on, find_end}
-use Rattle.nb_record.proofs.cell_page.CellPage.place_of.Goals as goal
+use Rattle.nb_record.proofs.cell_page.CellPage.index_of.Goals as goal
 
-pub returns-then-key_at-number-clause-place : goal.returns-then-key_at-number-clause-place
-returns-then-key_at-number-clause-place c =
+pub returns-then-key_at-number-clause-index : goal.returns-then-key_at-number-clause-index
+returns-then-key_at-number-clause-index c =
     let here : word 0 (cell_record c.loop-i.i c.args.self.now) ≡ c.args.key = sym c.key_at.ensures ∙ c.if-key_at-number.true ∙ c.number-number.ensures.number in
     sym (c.loop-i.invariant ∙ find_here c.count-count.result c.loop-i.i c.args.key c.args.self.now c.loop-i-test.true here)
 
@@ -15,6 +15,6 @@ loop-i-preserved c =
     ∙ find_on c.count-count.result c.loop-i.i c.args.key c.args.self.now c.loop-i-test.true
     (λ here. c.if-key_at-number.false (c.key_at.ensures ∙ here ∙ sym c.number-number.ensures.number))
 
-pub returns-clause-place : goal.returns-clause-place
-returns-clause-place c =
+pub returns-clause-index : goal.returns-clause-index
+returns-clause-index c =
     sym (c.loop-i.invariant ∙ find_end c.count-count.result c.loop-i.i c.args.key c.args.self.now (omega arith))

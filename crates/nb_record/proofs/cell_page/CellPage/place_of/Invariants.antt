@@ -1,6 +1,0 @@
-use Rattle.std.proofs.Common.{◌≡◌, ◌-◌}
-use Rattle.nb_record.specs.Looking.{find_key, place_of_key}
-use Rattle.nb_record.proofs.cell_page.CellPage.place_of.Given as goal
-
-abbrev pub invariant-loop-i : goal.invariant-loop-i
-invariant-loop-i l = place_of_key l.fn.key l.self ≡ find_key (l.count - l.i) l.i l.fn.key l.self
