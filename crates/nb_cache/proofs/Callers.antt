@@ -1,6 +1,6 @@
 -- What crates above may cite: what calls that take a cache leave alone, one after the other, what a file is as the cache
 -- shows it, and what keeps a cache in step. Every other proof file of this crate is its own.
-use Rattle.std.proofs.Common.{◌≡◌, ◌≢◌, ℕ, zero, suc, inl, inr, IsTrue, IsOk, List, [], ◌∷◌, ◌++◌, Result, Err, refl, sym, ap, subst, ◌∙◌, Contains, arith}
+use Rattle.std.proofs.Common.{◌≡◌, ◌≢◌, ℕ, zero, suc, inl, inr, IsTrue, IsOk, List, [], ◌∷◌, ◌++◌, Result, Err, refl, sym, ap, subst, ◌∙◌, Contains, arith, Some, length}
 use Rattle.std.proofs.lemmas.List.Elements.{Contains-append_left, Contains-append_right, Contains-append_cases}
 use Rattle.nb_host.specs.Crashes.{Stays, AgreesOutside}
 use Rattle.nb_host.specs.Image.{Image, FileBecomes, SaysPart}
@@ -8,9 +8,10 @@ use Rattle.nb_host.specs.Meaning.{HostModel, Leads}
 use Rattle.nb_host.specs.Page.{page_of}
 use Rattle.nb_host.specs.declared.host.Channel.{Channel}
 use Rattle.nb_host.specs.declared.page_name.PageName.{PageName}
-use Rattle.nb_host.proofs.Callers.{agrees_itself, agrees_more, agrees_both, leads_none, leads_more, leads_then, rose_from_less}
+use Rattle.nb_host.specs.declared.page_name.TheConstants.{PAGE_SIZE}
+use Rattle.nb_host.proofs.Callers.{agrees_itself, agrees_more, agrees_both, leads_none, leads_more, leads_then, ok_is_no_error, stopped_after}
 use Rattle.nb_cache.specs.InStep.{IsCachedFile, Fits, IsInStep}
-use Rattle.nb_cache.specs.View.{CacheValue, overlaid, view_of, seen, Seen, Same}
+use Rattle.nb_cache.specs.View.{CacheValue, overlaid, shown, view_of, seen, Seen, Same}
 use Rattle.nb_cache.specs.Writes.{Writes, RanCached}
 use Rattle.nb_cache.proofs.Fitting.{fits_elsewhere}
 
@@ -33,7 +34,7 @@ writes_begins m files cache host in_step = record {
   in_step = in_step;
   view = λ _ file spared. refl;
   count = omega arith;
-  refused = refl;
+  tally = refl;
 }
 
 -- more files
@@ -54,7 +55,7 @@ writes_more {few = few} {more = more} {old_cache = old_cache} within writes =
       in_step = writes.in_step;
       view = λ tells file spared. writes.view tells file (λ has. spared (within file has));
       count = writes.count;
-      refused = writes.refused;
+      tally = writes.tally;
     }
 
 -- none, and so any
@@ -98,7 +99,7 @@ writes_both {first = first} {second = second} {old_cache = old_cache} {middle_ca
           two.view tells file (λ has. spared (Contains-append_right first second file has))
           ∙ one.view tells file (λ has. spared (Contains-append_left first second file has));
       count = omega (arith, one.count, two.count);
-      refused = two.refused ∙ one.refused;
+      tally = two.tally ∙ one.tally;
     }
 
 -- calls after calls, where both write these files alone
@@ -120,15 +121,15 @@ pub ran_more : {H T E : Type 0} {m : HostModel H} {fault : E} {few more : List �
     → RanCached m fault more old_cache old new_cache new result
 ran_more within ran = record { writes = writes_more within ran.writes; rose = ran.rose; spared = ran.spared }
 
--- an answer handed on
+-- another answer, which stands for a fault exactly where this one does
 pub ran_as : {H T U D E : Type 0} {m : HostModel H} {early : D} {fault : E} {files : List ℕ}
     {old_cache new_cache : CacheValue} {old new : H} {one : Result T D} {result : Result U E}
     → RanCached m early files old_cache old new_cache new one → (result ≡ Err fault → one ≡ Err early)
-    → (IsOk result → IsOk one) → RanCached m fault files old_cache old new_cache new result
-ran_as ran fault ok = record {
+    → (one ≡ Err early → result ≡ Err fault) → RanCached m fault files old_cache old new_cache new result
+ran_as ran there back = record {
   writes = ran.writes;
-  rose = λ faulted. ran.rose (fault faulted);
-  spared = λ is. ran.spared (ok is);
+  rose = λ faulted. ran.rose (there faulted);
+  spared = λ never. ran.spared (λ faulted. never (back faulted));
 }
 
 -- a call after calls that were all Ok
@@ -139,8 +140,8 @@ pub ran_then : {H T U D E : Type 0} {m : HostModel H} {early : D} {fault : E} {f
     → RanCached m fault (first ++ second) old_cache old new_cache new result
 ran_then one ok two = record {
   writes = writes_both one.writes two.writes;
-  rose = λ faulted. rose_from_less one.writes.count (two.rose faulted);
-  spared = λ is. two.spared is ∙ one.spared ok;
+  rose = λ faulted. stopped_after (one.spared (ok_is_no_error ok)) (two.rose faulted);
+  spared = λ never. two.spared never ∙ one.spared (ok_is_no_error ok);
 }
 
 -- a call after calls that were all Ok, where both write these files alone
@@ -151,8 +152,8 @@ pub ran_again : {H T U D E : Type 0} {m : HostModel H} {early : D} {fault : E} {
     → RanCached m fault files old_cache old new_cache new result
 ran_again one ok two = record {
   writes = writes_again one.writes two.writes;
-  rose = λ faulted. rose_from_less one.writes.count (two.rose faulted);
-  spared = λ is. two.spared is ∙ one.spared ok;
+  rose = λ faulted. stopped_after (one.spared (ok_is_no_error ok)) (two.rose faulted);
+  spared = λ never. two.spared never ∙ one.spared (ok_is_no_error ok);
 }
 
 -- A file as the cache shows it.
@@ -193,6 +194,18 @@ pub lent_page : {H : Type 0} {m : HostModel H} {files : List ℕ} {old_cache new
     → IsTrue m.tells → bytes ≡ page_of (seen m old_cache old name.file) name.page
 lent_page {m = m} {new = new} name spared writes lent tells =
     lent (m.contents new) (writes.in_step tells) ∙ ap (λ l. page_of l name.page) (writes.view tells name.file spared)
+
+-- What a cache shows after calls that left the file alone, of any page, is the page as it was. The first fact is the clause
+-- `shown` of `pages`.
+pub shown_page : {H : Type 0} {m : HostModel H} {files : List ℕ} {old_cache new_cache : CacheValue} {old new : H}
+    → ((image : Image) (name : PageName) (bytes : List ℕ) → Fits new_cache image → shown new_cache.held name ≡ Some bytes
+    → (bytes ≡ page_of (view_of new_cache image name.file) name.page) × (length bytes ≡ PAGE_SIZE))
+    → Writes m files old_cache old new_cache new → IsTrue m.tells → (name : PageName) (bytes : List ℕ)
+    → (Contains files name.file → ⊥) → shown new_cache.held name ≡ Some bytes
+    → bytes ≡ page_of (seen m old_cache old name.file) name.page
+shown_page {m = m} {new = new} all writes tells name bytes spared is =
+    (all (m.contents new) name bytes (writes.in_step tells) is).0
+    ∙ ap (λ l. page_of l name.page) (writes.view tells name.file spared)
 
 -- What keeps a cache in step, and its view: calls of the host itself on files that don't go through a cache.
 

@@ -2,7 +2,8 @@
 use Rattle.std.proofs.Common.{◌≡◌, ℕ, ◌+◌, ◌-◌, ◌<◌, ◌≤◌, inl, inr, true, false, List, [], ◌∷◌, length, Option, Some, None, option_to_list, refl, sym, ap, subst, arith}
 use Rattle.std.proofs.lemmas.List.{length-map, length-take}
 use Rattle.std.proofs.lemmas.Option.{slice_get_cases}
-use Rattle.std.specs.Map.{lookup, lookup_entry, remove_entry}
+use Rattle.std.proofs.lemmas.Map.{length-set_value}
+use Rattle.std.specs.Map.{lookup, lookup_entry, remove_entry, set_value}
 use Rattle.nb_host.specs.declared.page_name.PageName.{PageName}
 use Rattle.lru.specs.LruCache.{LruCache, IsValid, lru_cache, put_entries, promoted, displaced}
 use Rattle.nb_host.specs.Page.{same_page}
@@ -96,6 +97,19 @@ module _ (frames : LruCache PageName Frame) (spare room : ℕ) (old : Stock) (sh
       length-promoted k frames.entries,
     );
     room = omega (arith, counted.room, ap (λ (l : LruCache PageName Frame). l.cap) moved);
+  }
+
+  pub settled_frames : (after : Frame)
+      → HasFrames n (stock_of (set_value (same_page k) frames.entries after) frames.cap spare room)
+  settled_frames after = record {
+    all = omega (
+      arith,
+      counted.all,
+      length-held_of frames.entries,
+      length-held_of (set_value (same_page k) frames.entries after),
+      length-set_value (same_page k) frames.entries after,
+    );
+    room = counted.room;
   }
 
   pub gone_frames : m ≡ lru_cache (remove_entry (same_page k) frames.entries) frames.cap → (left : Option Frame)

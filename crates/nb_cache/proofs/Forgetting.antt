@@ -9,11 +9,11 @@ use Rattle.std.proofs.lemmas.Map.Keys.{IsDistinct-head, IsDistinct-tail}
 use Rattle.lru.proofs.Splits.{Contains-middle}
 use Rattle.nb_host.specs.declared.page_name.PageName.{PageName}
 use Rattle.std.proofs.lemmas.Option.{slice_get_cases}
-use Rattle.nb_cache.specs.WriteThrough.{IsWriteThrough}
+use Rattle.nb_cache.specs.Sound.{IsSound}
 use Rattle.nb_cache.specs.Stock.{Stock, HasFrames}
-use Rattle.nb_cache.specs.View.{Held, held_names}
+use Rattle.nb_cache.specs.View.{held_names}
 use Rattle.nb_host.specs.Page.{same_page}
-use Rattle.nb_cache.specs.Names.{without, without_file, used}
+use Rattle.nb_cache.specs.Names.{without, without_file, used, IsWithoutFile}
 use Rattle.nb_host.proofs.Callers.{same_page_refl}
 use Rattle.nb_cache.proofs.Uses.{Lacks, without_lacking}
 
@@ -124,17 +124,17 @@ is_some_last names some none =
 pub record Forgets (file counter : ℕ) (old now : Stock) : Type 0 where
   pub within : counter ≤ length (held_names old.held)
   pub names : held_names now.held ≡ kept file (length (held_names old.held) - counter) (held_names old.held)
-  pub held : (h : Held) → Contains now.held h → Contains old.held h
+  pub others : IsWithoutFile file old.held now.held
   pub pages : now.pages ≡ old.pages
   pub frames : HasFrames (old.pages + 1) now
-  pub sound : IsWriteThrough now.pages now.held
+  pub sound : IsSound now.pages now.held
 
-pub forgets_none : (file : ℕ) (old : Stock) → IsWriteThrough old.pages old.held → HasFrames (old.pages + 1) old
+pub forgets_none : (file : ℕ) (old : Stock) → IsSound old.pages old.held → HasFrames (old.pages + 1) old
     → Forgets file 0 old old
 forgets_none file old sound frames = record {
   within = omega arith;
   names = kept_none file (length (held_names old.held) - 0) (held_names old.held) (omega arith);
-  held = λ h has. has;
+  others = record { fewer = λ h has. has; others = λ h has _. has; view = λ other bytes _. refl };
   pages = refl;
   frames = frames;
   sound = sound;
@@ -157,9 +157,9 @@ module _ (file counter : ℕ) (old now : Stock) (n : PageName) (so_far : Forgets
   pub forgets_next : (new : Stock)
       → (n.file ≡ file → held_names new.held ≡ without (n ∷ []) (held_names now.held))
       → (n.file ≢ file → held_names new.held ≡ used now.pages (n ∷ []) (held_names now.held))
-      → ((h : Held) → Contains new.held h → Contains now.held h) → new.pages ≡ now.pages
-      → HasFrames (now.pages + 1) new → IsWriteThrough new.pages new.held → Forgets file (counter + 1) old new
-  forgets_next new here other held pages frames sound = record {
+      → IsWithoutFile file now.held new.held → new.pages ≡ now.pages
+      → HasFrames (now.pages + 1) new → IsSound new.pages new.held → Forgets file (counter + 1) old new
+  forgets_next new here other others pages frames sound = record {
     within = omega (arith, less);
     names = (elim (n.file == file) as (λ y. (n.file == file) ≡ y → held_names new.held ≡ kept file left (held_names old.held)) [
       | true ↦ λ test.
@@ -170,7 +170,11 @@ module _ (file counter : ℕ) (old now : Stock) (n : PageName) (so_far : Forgets
           ∙ moved file left (held_names old.held) (held_names now.held) n within_old are so_far.sound.distinct last now.pages
           so_far.sound.bound test
     ]) refl;
-    held = λ h has. so_far.held h (held h has);
+    others = record {
+      fewer = λ h has. so_far.others.fewer h (others.fewer h has);
+      others = λ h has out. others.others h (so_far.others.others h has out) out;
+      view = λ file bytes out. others.view file bytes out ∙ so_far.others.view file bytes out;
+    };
     pages = pages ∙ so_far.pages;
     frames = subst (λ n. HasFrames (n + 1) new) so_far.pages frames;
     sound = sound;

@@ -3,9 +3,17 @@ mod Counting
 mod Entries
 mod Fetching
 mod Fitting
+mod Flushing
 mod Forgetting
+mod Laying
 mod Marking
+mod Overlays
 mod Pages
+mod Putting
 mod Residents
+mod Rooms
+mod Settling
+mod Shown
+mod Torn
 mod Uses
 mod Writing

@@ -1,5 +1,5 @@
 -- The frames of a cache: those of the resident pages, and the spare ones, which hold none.
-use Rattle.std.specs.Prelude.{◌≡◌, ℕ, ◌+◌, ◌<◌, false, List, map, length}
+use Rattle.std.specs.Prelude.{◌≡◌, ℕ, ◌+◌, ◌<◌, List, map, length}
 use Rattle.nb_host.specs.declared.page_name.PageName.{PageName}
 use Rattle.nb_cache.specs.View.{Held}
 use Rattle.nb_cache.specs.declared.frame.Frame.{Frame}
@@ -17,6 +17,6 @@ pub record HasFrames (frames : ℕ) (s : Stock) : Type 0 where
   pub all : length s.held + s.spare ≡ frames
   pub room : s.pages < s.room
 
--- the resident pages of a cache that writes each page at once
+-- the resident pages, from the pairs of the map
 abbrev pub held_of : List (PageName × Frame) → List Held
-held_of es = map (λ e. record { name = e.0; bytes = e.1.bytes.items; waiting = false }) es
+held_of es = map (λ e. record { name = e.0; bytes = e.1.bytes.items; waiting = e.1.waiting }) es

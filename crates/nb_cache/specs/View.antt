@@ -1,5 +1,5 @@
 -- What a cache is to its callers: how many pages it has, the resident pages, and the bytes that it shows over a host's.
-use Rattle.std.specs.Prelude.{◌≡◌, ℕ, Bool, IsTrue, if◌then◌else◌, ◌&&◌, ◌==◌, List, [], ◌∷◌, map, take, slice_get, Option, None, Some}
+use Rattle.std.specs.Prelude.{◌≡◌, ℕ, Bool, true, IsTrue, Contains, if◌then◌else◌, ◌&&◌, ◌==◌, List, [], ◌∷◌, map, take, slice_get, Option, None, Some}
 use Rattle.std.specs.List.{AllByRecursion}
 use Rattle.nb_host.specs.Image.{Image, overwritten}
 use Rattle.nb_host.specs.Meaning.{HostModel}
@@ -29,6 +29,13 @@ names_of c = held_names c.held
 abbrev pub shown : List Held → PageName → Option (List ℕ)
 shown [] name = None
 shown (h ∷ held) name = if same_page name h.name then Some h.bytes else shown held name
+
+-- a page waits to be written
+pub record Waits (held : List Held) (name : PageName) : Type 0 where
+  pub page : Held
+  pub there : Contains held page
+  pub named : page.name ≡ name
+  pub waiting : page.waiting ≡ true
 
 -- a file's bytes with its waiting pages laid over them
 abbrev pub overlaid : ℕ → List Held → List ℕ → List ℕ

@@ -1,27 +1,29 @@
 //! The cache of pages.
 
-ghost use Rattle.std.specs.Prelude.{◌≡◌, ◌≢◌, ℕ, ◌^◌, ◌≤◌, ◌↔◌, ◌⊎◌, false, [], ◌∷◌, IsTrue, option_map, IsSome, IfSome, IfOk, OnOk, OnErr, Err, Contains, length};
+ghost use Rattle.std.specs.Prelude.{◌≡◌, ◌≢◌, ℕ, ◌^◌, ◌≤◌, ◌↔◌, ◌⊎◌, ◌-◌, false, List, [], ◌∷◌, take, Some, None, IsTrue, option_map, IsSome, IfSome, IfOk, OnOk, OnErr, Err, Contains, length};
 ghost use Rattle.std.specs.List.{AllByRecursion};
+ghost use Rattle.nb_host.specs.Crashes.{Stays};
 ghost use Rattle.nb_host.specs.Image.{Image, IsOverwritten, IsTorn, IsPartlyCut};
-ghost use Rattle.nb_host.specs.Meaning.{Counts};
+ghost use Rattle.nb_host.specs.Meaning.{Ran};
 ghost use Rattle.nb_host.specs.Page.{IsRising, page_of, page_start};
 ghost use Rattle.nb_host.specs.declared.page_name.PageName.{PageName as PageNames};
-ghost use Rattle.nb_cache.specs.Names.{used, without_file};
+ghost use Rattle.nb_cache.specs.Names.{used, without_file, held_without, settled, HasRoom};
 ghost use Rattle.nb_cache.specs.InStep.{IsCachedFile, IsCacheable, IsInStep, Fits};
-ghost use Rattle.nb_cache.specs.View.{Held, names_of, shown, view_of, seen, Seen, Same, IsWhole, IsFirstShort};
+ghost use Rattle.nb_cache.specs.Sound.{IsSound};
+ghost use Rattle.nb_cache.specs.View.{names_of, shown, view_of, seen, Seen, Same, IsWhole, IsFirstShort};
 ghost use Rattle.nb_cache.specs.Writes.{RanCached};
-ghost use Rattle.nb_cache.specs.WriteThrough.{IsWriteThrough, IsReading};
 
 use crate::cache_error::CacheError;
 use crate::frames::Frames;
 use crate::load::load;
 use crate::marks::Marks;
-use nb_host::{Host, PAGE_SIZE, PageName};
+use nb_host::{Host, HostError, PAGE_SIZE, PageName};
 use nb_model::NoMemory;
 use std::alloc::Global;
 use std::marker::Model;
 
-/// A bounded cache of pages that lends their bytes. It writes each page at once.
+/// A bounded cache of pages that lends their bytes. It writes late: a page that was put waits in its frame
+/// until it leaves the cache or its file is flushed.
 #[derive(Drop)]
 pub struct Cache {
     frames: Frames,
@@ -51,7 +53,8 @@ impl Cache {
     pub fn new(alloc: Global, pages: usize) -> Result<Cache, NoMemory>
         requires least { 4 ≤ pages }
         requires most { pages ≤ 2 ^ 18 }
-        ensures { IfOk result (λ c. c ≡ record { pages = pages; held = []; unwritten = [] }) }
+        ensures value { IfOk result (λ c. c ≡ record { pages = pages; held = []; unwritten = [] }) }
+        ensures fits { IfOk result (λ c. (image : Image) → Fits c image) }
     {
         let frames = Frames::new(alloc, pages)?;
         Ok(Cache {
@@ -60,19 +63,26 @@ impl Cache {
         })
     }
 
-    /// How many pages the cache has.
+    /// How many pages the cache has. It also says of every page at once what `lent` says of one: which are
+    /// shown, and that what is shown is the view's page.
     pub fn pages(&self) -> usize
         ensures value { result ≡ self.now.pages }
         ensures least { 4 ≤ result }
         ensures most { result ≤ 2 ^ 18 }
+        ensures shown { (image : Image) (name : PageNames) (bytes : List ℕ) → Fits self.now image
+            → shown self.now.held name ≡ Some bytes
+            → (bytes ≡ page_of (view_of self.now image name.file) name.page) × (length bytes ≡ PAGE_SIZE) }
+        ensures resident { (name : PageNames) → (Contains (names_of self.now) name
+            ↔ (shown self.now.held name ≢ None)) }
     {
+        let _ = self.len();
         self.frames.pages()
     }
 
     /// How many pages are resident. A call begins with it, since it tells the proof what holds of a cache.
     fn len(&self) -> usize
         ensures count { result ≡ length (names_of self.now) }
-        ensures sound { IsWriteThrough self.now.pages self.now.held }
+        ensures sound { IsSound self.now.pages self.now.held }
     {
         self.frames.len()
     }
@@ -113,7 +123,9 @@ impl Cache {
         Ok(())
     }
 
-    /// Makes these bytes the page's. After Fault the page may hold anything, and so may a gap before it.
+    /// Makes these bytes the page's, in its frame: they are written when the page leaves or is flushed. A page
+    /// past the end of its file by a gap is written at once. After Fault the page may hold anything, and so may
+    /// a gap before it.
     pub fn put<H: Host>(
         &mut self,
         host: &mut H,
@@ -140,17 +152,13 @@ impl Cache {
     {
         let _ = self.len();
         self.unwritten.mark(name.file);
-        self.keep(name, bytes)?;
-        match host.write_at(name.file, name.page * PAGE_SIZE as u64, bytes) {
-            Ok(()) => Ok(()),
-            Err(error) => {
-                self.frames.forget(name);
-                Err(error.into())
-            }
-        }
+        let joins = self.joins(host, name)?;
+        self.make_room(host, name)?;
+        self.lay(host, name, bytes, joins)
     }
 
-    /// Writes the pages that wait to be written: none does, since `put` writes each at once.
+    /// Writes the pages that wait to be written, by file and page, each once. After a refusal those that are
+    /// left still wait.
     pub fn flush<H: Host>(&mut self, host: &mut H) -> Result<(), CacheError>
         requires { IsInStep H.meaning self.old host.old }
         ensures resident { names_of self.new ≡ names_of self.old }
@@ -162,14 +170,17 @@ impl Cache {
         ensures bound { length (names_of self.new) ≤ self.new.pages }
         ensures ran { RanCached H.meaning CacheError.Fault [] self.old host.old self.new host.new result }
     {
-        let _ = host;
         let _ = self.len();
+        let names = self.frames.names_waiting()?;
+        for &name in &names {
+            self.settle(host, name)?;
+        }
         self.unwritten.clear();
         Ok(())
     }
 
-    /// Empties a file, in the view and on the host. None of its pages stays resident. After Fault the file
-    /// may have any length up to its old one, and hold anything.
+    /// Empties a file, in the view and on the host. None of its pages stays resident, and those that waited
+    /// are never written. After Fault the file may have any length up to its old one, and hold anything.
     pub fn empty<H: Host>(&mut self, host: &mut H, file: u64) -> Result<(), CacheError>
         requires cached { IsCachedFile file }
         requires in_step { IsInStep H.meaning self.old host.old }
@@ -189,10 +200,18 @@ impl Cache {
             self.new host.new result }
     {
         let _ = self.len();
-        self.frames.forget_file(file);
-        host.cut(file, 0)?;
-        self.unwritten.unmark(file);
-        Ok(())
+        match host.cut(file, 0) {
+            Ok(()) => {
+                self.frames.forget_file(file);
+                self.unwritten.unmark(file);
+                Ok(())
+            }
+            Err(HostError::Fault) => {
+                self.frames.forget_file(file);
+                Err(CacheError::Fault)
+            }
+            Err(HostError::NoMemory) => Err(CacheError::NoMemory),
+        }
     }
 
     /// Makes one page resident and the most recently used.
@@ -206,41 +225,185 @@ impl Cache {
         ensures short { (other : PageNames) → result ≡ Err (CacheError.Short other) → other ≡ name }
         ensures ends { (other : PageNames) → result ≡ Err (CacheError.Short other)
             → IsTrue H.meaning.tells → IsWhole self.old (H.meaning.contents host.old) name → ⊥ }
-        ensures reads { IsReading H.meaning self.old host.old self.new host.new }
-        ensures counts { Counts H.meaning CacheError.Fault host.old host.new result }
+        ensures unwritten { self.new.unwritten ≡ self.old.unwritten }
+        ensures sound { IsSound self.new.pages self.new.held }
+        ensures ran { RanCached H.meaning CacheError.Fault [] self.old host.old self.new host.new result }
     {
         let _ = self.len();
         if self.frames.promote(name) {
             return Ok(());
         }
+        self.make_room(host, name)?;
+        self.read_in(host, name)
+    }
+
+    /// Reads a page in, for which there is room, as the most recently used.
+    fn read_in<H: Host>(&mut self, host: &mut H, name: PageName) -> Result<(), CacheError>
+        requires name { IsCacheable name }
+        requires absent { Contains (names_of self.old) name → ⊥ }
+        requires room { HasRoom name self.old.pages self.old.held }
+        requires in_step { IsInStep H.meaning self.old host.old }
+        ensures resident { OnOk result (names_of self.new
+            ≡ used self.old.pages (name ∷ []) (names_of self.old)) }
+        ensures whole { OnOk result (IsTrue H.meaning.tells
+            → IsWhole self.old (H.meaning.contents host.old) name) }
+        ensures short { (other : PageNames) → result ≡ Err (CacheError.Short other) → other ≡ name }
+        ensures ends { (other : PageNames) → result ≡ Err (CacheError.Short other)
+            → IsTrue H.meaning.tells → IsWhole self.old (H.meaning.contents host.old) name → ⊥ }
+        ensures unwritten { self.new.unwritten ≡ self.old.unwritten }
+        ensures sound { IsSound self.new.pages self.new.held }
+        ensures ran { RanCached H.meaning CacheError.Fault [] self.old host.old self.new host.new result }
+    {
+        let _ = self.len();
         let mut frame = self.frames.take();
         match load(host, name, &mut frame) {
             Ok(()) => {
+                frame.wait(false);
                 self.frames.place(name, frame)?;
                 Ok(())
             }
             Err(error) => {
                 self.frames.give(frame);
+                let _ = self.frames.len();
                 Err(error)
             }
         }
     }
 
-    /// Puts a copy of the bytes of a page under its name, as the most recently used.
-    fn keep(&mut self, name: PageName, bytes: &[u8]) -> Result<(), NoMemory>
-        requires { length bytes.now ≡ PAGE_SIZE }
+    /// Whether a put of this page leaves no gap behind the end of its file. The host is asked only where neither
+    /// the page nor the one before it is resident.
+    fn joins<H: Host>(&self, host: &mut H, name: PageName) -> Result<bool, CacheError>
+        requires name { IsCacheable name }
+        requires in_step { IsInStep H.meaning self.now host.old }
+        ensures joins { IfOk result (λ joins. IsTrue joins → IsTrue H.meaning.tells
+            → page_start name.page ≤ length (seen H.meaning self.now host.old name.file)) }
+        ensures absent { IfOk result (λ joins. joins ≡ false → Contains (names_of self.now) name → ⊥) }
+        ensures host_refusal { (other : PageNames) → result ≢ Err (CacheError.Short other) }
+        ensures ran { Ran H.meaning CacheError.Fault Stays host.old host.new result }
+    {
+        let _ = self.len();
+        if name.page == 0 {
+            return Ok(true);
+        }
+        if self.frames.lent(name).is_some() {
+            return Ok(true);
+        }
+        let before = PageName {
+            file: name.file,
+            page: name.page - 1,
+        };
+        if self.frames.lent(before).is_some() {
+            return Ok(true);
+        }
+        let len = host.len(name.file)?;
+        Ok(name.page * PAGE_SIZE as u64 <= len)
+    }
+
+    /// Writes the page that has to leave for this one, where it waits.
+    fn make_room<H: Host>(&mut self, host: &mut H, name: PageName) -> Result<(), CacheError>
+        requires in_step { IsInStep H.meaning self.old host.old }
+        ensures resident { names_of self.new ≡ names_of self.old }
+        ensures room { OnOk result (HasRoom name self.new.pages self.new.held) }
+        ensures unwritten { self.new.unwritten ≡ self.old.unwritten }
+        ensures sound { IsSound self.new.pages self.new.held }
+        ensures host_refusal { (other : PageNames) → result ≢ Err (CacheError.Short other) }
+        ensures ran { RanCached H.meaning CacheError.Fault [] self.old host.old self.new host.new result }
+    {
+        if self.len() < self.frames.pages() {
+            return Ok(());
+        }
+        if self.frames.lent(name).is_some() {
+            return Ok(());
+        }
+        let Some(last) = self.frames.last() else {
+            return Ok(());
+        };
+        self.settle(host, last)?;
+        Ok(())
+    }
+
+    /// Writes a page where it waits. Where that fails it still waits.
+    fn settle<H: Host>(&mut self, host: &mut H, name: PageName) -> Result<(), CacheError>
+        requires in_step { IsInStep H.meaning self.old host.old }
+        ensures resident { names_of self.new ≡ names_of self.old }
+        ensures settled { OnOk result (self.new.held ≡ settled name self.old.held) }
+        ensures refusal { OnErr result (self.new.held ≡ self.old.held) }
+        ensures unwritten { self.new.unwritten ≡ self.old.unwritten }
+        ensures sound { IsSound self.new.pages self.new.held }
+        ensures host_refusal { (other : PageNames) → result ≢ Err (CacheError.Short other) }
+        ensures ran { RanCached H.meaning CacheError.Fault [] self.old host.old self.new host.new result }
+    {
+        let _ = self.len();
+        let Some(bytes) = self.frames.waiting(name) else {
+            return Ok(());
+        };
+        host.write_at(name.file, name.page * PAGE_SIZE as u64, bytes)?;
+        self.frames.settle(name);
+        let _ = self.frames.len();
+        Ok(())
+    }
+
+    /// Puts a page for which there is room: late where it joins its file, and else at once.
+    fn lay<H: Host>(
+        &mut self,
+        host: &mut H,
+        name: PageName,
+        bytes: &[u8],
+        joins: bool,
+    ) -> Result<(), CacheError>
+        requires name { IsCacheable name }
+        requires page { length bytes.now ≡ PAGE_SIZE }
+        requires marked { Contains self.old.unwritten name.file }
+        requires room { HasRoom name self.old.pages self.old.held }
+        requires joins { IsTrue joins → IsTrue H.meaning.tells
+            → page_start name.page ≤ length (seen H.meaning self.old host.old name.file) }
+        requires absent { joins ≡ false → Contains (names_of self.old) name → ⊥ }
+        requires in_step { IsInStep H.meaning self.old host.old }
         ensures resident { OnOk result (names_of self.new
             ≡ used self.old.pages (name ∷ []) (names_of self.old)) }
-        ensures held { OnOk result ((h : Held) → Contains self.new.held h
-            → (h ≡ record { name = name; bytes = bytes.now; waiting = false })
-            ⊎ (Contains self.old.held h × (h.name ≢ name))) }
+        ensures view { OnOk result (Seen H.meaning name.file (IsOverwritten (page_start name.page) bytes.now)
+            self.old host.old self.new host.new) }
+        ensures torn { Seen H.meaning name.file (IsTorn (page_start name.page) PAGE_SIZE)
+            self.old host.old self.new host.new }
+        ensures no_memory { result ≡ Err CacheError.NoMemory → (file : ℕ)
+            → Seen H.meaning file Same self.old host.old self.new host.new }
+        ensures unwritten { self.new.unwritten ≡ self.old.unwritten }
+        ensures sound { IsSound self.new.pages self.new.held }
+        ensures host_refusal { (other : PageNames) → result ≢ Err (CacheError.Short other) }
+        ensures ran { RanCached H.meaning CacheError.Fault (name.file ∷ []) self.old host.old
+            self.new host.new result }
+    {
+        let _ = self.len();
+        self.keep(name, bytes, joins)?;
+        if joins {
+            return Ok(());
+        }
+        match host.write_at(name.file, name.page * PAGE_SIZE as u64, bytes) {
+            Ok(()) => Ok(()),
+            Err(error) => {
+                self.frames.forget(name);
+                Err(error.into())
+            }
+        }
+    }
+
+    /// Puts a copy of the bytes of a page under its name, as the most recently used.
+    fn keep(&mut self, name: PageName, bytes: &[u8], waiting: bool) -> Result<(), NoMemory>
+        requires name { IsCacheable name }
+        requires page { length bytes.now ≡ PAGE_SIZE }
+        ensures resident { OnOk result (names_of self.new
+            ≡ used self.old.pages (name ∷ []) (names_of self.old)) }
+        ensures held { OnOk result (self.new.held
+            ≡ record { name = name; bytes = bytes.now; waiting = waiting }
+            ∷ take (self.old.pages - 1) (held_without name self.old.held)) }
         ensures refusal { OnErr result (self.new.held ≡ self.old.held) }
         ensures pages { self.new.pages ≡ self.old.pages }
         ensures unwritten { self.new.unwritten ≡ self.old.unwritten }
-        ensures sound { IsWriteThrough self.new.pages self.new.held }
+        ensures sound { IsSound self.new.pages self.new.held }
     {
         let mut frame = self.frames.take();
         frame.fill(bytes);
+        frame.wait(waiting);
         self.frames.place(name, frame)?;
         Ok(())
     }

@@ -6,10 +6,11 @@ ghost use Rattle.nb_host.specs.declared.page_name.TheConstants.{PAGE_SIZE};
 use nb_host::PAGE_SIZE;
 use std::alloc::{AllocError, Global};
 
-/// The memory of one page.
+/// The memory of one page, and whether its bytes wait to be written.
 #[derive(Drop)]
 pub(crate) struct Frame {
     pub(crate) bytes: Vec<u8>,
+    pub(crate) waiting: bool,
     pub(crate) ghost whole: { length bytes.items ≡ PAGE_SIZE },
 }
 
@@ -18,6 +19,7 @@ impl Frame {
     pub(crate) fn new(alloc: Global) -> Result<Frame, AllocError> {
         Ok(Frame {
             bytes: vec![in alloc; 0; PAGE_SIZE]?,
+            waiting: false,
         })
     }
 
@@ -27,5 +29,12 @@ impl Frame {
         ensures { self.new.bytes.items ≡ bytes.now }
     {
         self.bytes.copy_from_slice(bytes);
+    }
+
+    /// Says whether its bytes wait to be written.
+    pub(crate) fn wait(&mut self, waiting: bool)
+        ensures { self.new ≡ record self.old { waiting = waiting } }
+    {
+        self.waiting = waiting;
     }
 }

@@ -1,16 +1,18 @@
 //! The frames of a cache, and which pages they hold.
 
-ghost use Rattle.std.specs.Prelude.{◌≡◌, ◌≢◌, ℕ, List, ◌+◌, ◌-◌, ◌^◌, ◌<◌, ◌≤◌, ◌↔◌, ◌⊎◌, vec_len, vec_capacity, false, [], ◌∷◌, IsTrue, option_map, IsSome, IfSome, IfOk, OnOk, OnErr, Contains, length, slice_get};
-ghost use Rattle.nb_cache.specs.Names.{used, without, without_file};
-ghost use Rattle.nb_cache.specs.WriteThrough.{IsWriteThrough};
+ghost use Rattle.std.specs.Prelude.{◌≡◌, ◌≢◌, ℕ, List, Bool, ◌+◌, ◌-◌, ◌^◌, ◌<◌, ◌≤◌, ◌↔◌, vec_len, vec_capacity, true, false, [], ◌∷◌, take, IsTrue, option_map, IsSome, IfSome, IfOk, OnOk, OnErr, Contains, length, map, filter, slice_get};
+ghost use Rattle.nb_host.specs.declared.page_name.PageName.{PageName as PageNames};
+ghost use Rattle.nb_cache.specs.InStep.{IsCacheable};
+ghost use Rattle.nb_cache.specs.Names.{used, without, without_file, held_without, settled, IsMoved, IsWithoutFile};
+ghost use Rattle.nb_cache.specs.Sound.{IsSound};
 ghost use Rattle.nb_cache.specs.Stock.{HasFrames};
-ghost use Rattle.nb_cache.specs.View.{Held, held_names, shown, overlaid};
+ghost use Rattle.nb_cache.specs.View.{Held, Waits, held_names, shown, overlaid};
 
 use crate::frame::Frame;
 use lru::LruCache;
 use nb_host::{PAGE_SIZE, PageName};
 use nb_model::NoMemory;
-use std::alloc::Global;
+use std::alloc::{AllocError, Global};
 use std::marker::Model;
 use std::num::NonZeroUsize;
 
@@ -22,11 +24,14 @@ pub(crate) struct Frames {
     resident: LruCache<PageName, Frame>,
     /// The frames that hold no page.
     spare: Vec<Frame>,
+    alloc: Global,
 }
 
 impl Model for Frames {
-    ghost use Rattle.std.specs.Prelude.{vec_len, vec_capacity};
+    ghost use Rattle.std.specs.Prelude.{Contains, vec_len, vec_capacity};
+    ghost use Rattle.nb_cache.specs.InStep.{IsCacheable};
     ghost use Rattle.nb_cache.specs.Stock.{Stock, held_of};
+    ghost use Rattle.nb_cache.specs.View.{Held};
 
     ghost Value = { Stock };
 
@@ -36,6 +41,8 @@ impl Model for Frames {
       spare = vec_len f.spare;
       room = vec_capacity f.spare;
     } };
+
+    ghost invariant = { λ f. (h : Held) → Contains (held_of f.resident.entries) h → IsCacheable h.name };
 }
 
 impl Frames {
@@ -50,7 +57,11 @@ impl Frames {
         let capacity = NonZeroUsize::new(pages).unwrap();
         let resident = LruCache::new(alloc, capacity)?;
         let spare = spare_frames(alloc, pages + 1)?;
-        Ok(Frames { resident, spare })
+        Ok(Frames {
+            resident,
+            spare,
+            alloc,
+        })
     }
 
     /// How many pages may be resident.
@@ -63,7 +74,7 @@ impl Frames {
     /// How many pages are resident. Like the map's `len`, it tells the proof what holds of them.
     pub(crate) fn len(&self) -> usize
         ensures count { result ≡ length (held_names self.now.held) }
-        ensures sound { IsWriteThrough self.now.pages self.now.held }
+        ensures sound { IsSound self.now.pages self.now.held }
     {
         self.resident.len()
     }
@@ -71,16 +82,53 @@ impl Frames {
     /// The bytes of a resident page.
     pub(crate) fn lent(&self, name: PageName) -> Option<&[u8]>
         ensures resident { IsSome result ↔ Contains (held_names self.now.held) name }
-        ensures held { IfSome result (λ bytes. Contains self.now.held
-            (record { name = name; bytes = bytes.now; waiting = false })) }
+        ensures held { IfSome result (λ bytes. (waiting : Bool) × Contains self.now.held
+            (record { name = name; bytes = bytes.now; waiting = waiting })) }
         ensures shown { option_map (λ bytes. bytes.now) result ≡ shown self.now.held name }
         ensures whole { IfSome result (λ bytes. length bytes.now ≡ PAGE_SIZE) }
-        ensures written { (file : ℕ) (bytes : List ℕ) → overlaid file self.now.held bytes ≡ bytes }
+        ensures sound { IsSound self.now.pages self.now.held }
     {
+        let _ = self.resident.len();
         match self.resident.peek(&name) {
             Some(frame) => Some(&frame.bytes),
             None => None,
         }
+    }
+
+    /// The bytes of a page that waits to be written, or None where it doesn't wait.
+    pub(crate) fn waiting(&self, name: PageName) -> Option<&[u8]>
+        ensures held { IfSome result (λ bytes. Contains self.now.held
+            (record { name = name; bytes = bytes.now; waiting = true })) }
+        ensures none { result ≡ None → Waits self.now.held name → ⊥ }
+    {
+        let _ = self.resident.len();
+        match self.resident.peek(&name) {
+            Some(frame) if frame.waiting => Some(&frame.bytes),
+            _ => None,
+        }
+    }
+
+    /// The names of the pages that wait to be written, in their order.
+    pub(crate) fn names_waiting(&self) -> Result<Vec<PageName>, NoMemory>
+        ensures { IfOk result (λ names. (name : PageNames) → Waits self.now.held name
+            → Contains names.items name) }
+    {
+        let mut names = waiting_names(self.alloc, &self.resident)?;
+        names.sort_unstable();
+        Ok(names)
+    }
+
+    /// A page no longer waits.
+    pub(crate) fn settle(&mut self, name: PageName)
+        ensures held { self.new.held ≡ settled name self.old.held }
+        ensures pages { self.new.pages ≡ self.old.pages }
+        ensures frames { (n : ℕ) → HasFrames n self.old → HasFrames n self.new }
+    {
+        let _ = self.resident.len();
+        let Some(frame) = self.resident.peek_mut(&name) else {
+            return;
+        };
+        frame.waiting = false;
     }
 
     /// Makes a resident page the most recently used, and tells whether it is resident.
@@ -89,10 +137,10 @@ impl Frames {
         ensures absent { result ≡ false → self.new ≡ self.old }
         ensures resident { IsTrue result → held_names self.new.held
             ≡ used self.old.pages (name ∷ []) (held_names self.old.held) }
-        ensures fewer { (h : Held) → Contains self.new.held h → Contains self.old.held h }
+        ensures moved { IsTrue result → IsMoved name self.old.held self.new.held }
         ensures pages { self.new.pages ≡ self.old.pages }
         ensures frames { (n : ℕ) → HasFrames n self.old → HasFrames n self.new }
-        ensures sound { IsWriteThrough self.new.pages self.new.held }
+        ensures sound { IsSound self.new.pages self.new.held }
     {
         let _ = self.resident.len();
         let found = self.resident.promote(&name);
@@ -124,16 +172,17 @@ impl Frames {
     /// Puts the frame that was taken under a name, as the most recently used. The page that leaves gives its
     /// frame back.
     pub(crate) fn place(&mut self, name: PageName, frame: Frame) -> Result<(), NoMemory>
-        requires { HasFrames self.old.pages self.old }
+        requires name { IsCacheable name }
+        requires frames { HasFrames self.old.pages self.old }
         ensures resident { OnOk result (held_names self.new.held
             ≡ used self.old.pages (name ∷ []) (held_names self.old.held)) }
-        ensures held { OnOk result ((h : Held) → Contains self.new.held h
-            → (h ≡ record { name = name; bytes = frame.bytes.items; waiting = false })
-            ⊎ (Contains self.old.held h × (h.name ≢ name))) }
+        ensures held { OnOk result (self.new.held
+            ≡ record { name = name; bytes = frame.bytes.items; waiting = frame.waiting }
+            ∷ take (self.old.pages - 1) (held_without name self.old.held)) }
         ensures refusal { OnErr result (self.new.held ≡ self.old.held) }
         ensures pages { self.new.pages ≡ self.old.pages }
         ensures frames { HasFrames (self.old.pages + 1) self.new }
-        ensures sound { IsWriteThrough self.new.pages self.new.held }
+        ensures sound { IsSound self.new.pages self.new.held }
     {
         let _ = self.resident.len();
         match self.resident.push(name, frame) {
@@ -156,10 +205,10 @@ impl Frames {
     pub(crate) fn forget(&mut self, name: PageName)
         requires { HasFrames (self.old.pages + 1) self.old }
         ensures resident { held_names self.new.held ≡ without (name ∷ []) (held_names self.old.held) }
-        ensures held { (h : Held) → Contains self.new.held h → Contains self.old.held h × (h.name ≢ name) }
+        ensures held { self.new.held ≡ held_without name self.old.held }
         ensures pages { self.new.pages ≡ self.old.pages }
         ensures frames { HasFrames (self.old.pages + 1) self.new }
-        ensures sound { IsWriteThrough self.new.pages self.new.held }
+        ensures sound { IsSound self.new.pages self.new.held }
     {
         let _ = self.resident.len();
         let gone = self.resident.pop(&name);
@@ -174,10 +223,10 @@ impl Frames {
     pub(crate) fn forget_file(&mut self, file: u64)
         requires { HasFrames (self.old.pages + 1) self.old }
         ensures resident { held_names self.new.held ≡ without_file file (held_names self.old.held) }
-        ensures held { (h : Held) → Contains self.new.held h → Contains self.old.held h }
+        ensures others { IsWithoutFile file self.old.held self.new.held }
         ensures pages { self.new.pages ≡ self.old.pages }
         ensures frames { HasFrames (self.old.pages + 1) self.new }
-        ensures sound { IsWriteThrough self.new.pages self.new.held }
+        ensures sound { IsSound self.new.pages self.new.held }
     {
         let resident = self.len();
         for _ in 0..resident {
@@ -196,11 +245,12 @@ impl Frames {
             → held_names self.new.held ≡ without (name ∷ []) (held_names self.old.held) }
         ensures moved { name.file ≢ file
             → held_names self.new.held ≡ used self.old.pages (name ∷ []) (held_names self.old.held) }
-        ensures held { (h : Held) → Contains self.new.held h → Contains self.old.held h }
+        ensures others { IsWithoutFile file self.old.held self.new.held }
         ensures pages { self.new.pages ≡ self.old.pages }
         ensures frames { HasFrames (self.old.pages + 1) self.new }
-        ensures sound { IsWriteThrough self.new.pages self.new.held }
+        ensures sound { IsSound self.new.pages self.new.held }
     {
+        let _ = self.len();
         if name.file == file {
             self.forget(name);
             return;
@@ -209,7 +259,7 @@ impl Frames {
     }
 
     /// The name of the least recently used page.
-    fn last(&self) -> Option<PageName>
+    pub(crate) fn last(&self) -> Option<PageName>
         ensures { result ≡ slice_get (held_names self.now.held) (length (held_names self.now.held) - 1) }
     {
         match self.resident.peek_lru() {
@@ -217,6 +267,21 @@ impl Frames {
             None => None,
         }
     }
+}
+
+/// The names of the pages that wait, the most recently used first.
+fn waiting_names(
+    alloc: Global,
+    resident: &LruCache<PageName, Frame>,
+) -> Result<Vec<PageName>, AllocError>
+    ensures { IfOk result (λ names. names.items
+        ≡ map (λ e. e.0) (filter (λ e. e.1.waiting) resident.now.entries)) }
+{
+    resident
+        .iter()
+        .filter(|(_, frame)| frame.waiting)
+        .map(|(name, _)| *name)
+        .collect(alloc)
 }
 
 /// So many frames.

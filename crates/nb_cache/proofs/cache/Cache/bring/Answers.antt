@@ -1,60 +1,107 @@
-use Rattle.std.proofs.Common.{◌≡◌, inl, inr, Contains, ap, sym, subst, ◌∙◌, refl}
-use Rattle.nb_host.proofs.Callers.{leads_none, stays_contents}
-use Rattle.nb_cache.specs.InStep.{Fits}
-use Rattle.nb_cache.specs.WriteThrough.{IsWriteThrough, IsReading}
-use Rattle.nb_cache.specs.Stock.{Stock}
-use Rattle.nb_cache.specs.View.{CacheValue, names_of}
+use Rattle.std.proofs.Common.{◌≡◌, OnOk, Result, Ok, Err, [], ◌∷◌, Contains, ap, refl, sym, subst, ◌∙◌, arith, rules}
+use Rattle.nb_host.specs.Page.{HasPage}
+use Rattle.nb_host.proofs.Callers.{leads_none}
+use Rattle.nb_cache.specs.Names.{used, IsMoved}
+use Rattle.nb_cache.specs.InStep.{IsInStep}
+use Rattle.nb_cache.specs.View.{CacheValue, IsWhole, names_of}
+use Rattle.nb_cache.specs.Writes.{Writes, RanCached}
+use Rattle.nb_cache.specs.declared.cache_error.CacheError.TheVariants.{Fault}
+use Rattle.nb_cache.proofs.Callers.{no_file, ran_again}
 use Rattle.nb_cache.proofs.Entries.{cache_of}
-use Rattle.nb_cache.proofs.Fitting.{fits_fewer, fits_loaded, resident_whole}
+use Rattle.nb_cache.proofs.Fitting.{resident_whole}
+use Rattle.nb_cache.proofs.Putting.{writes_moved}
 use Rattle.nb_cache.proofs.cache.Cache.bring.Goals as goal
 
+on_ok : {T E P Q : Type 0} (r : Result T E) → OnOk r P → (P → Q) → OnOk r Q
+on_ok (Ok x) has step = step has
+on_ok (Err e) has step = tt
+
 pub returns-then-promote-clause-whole : goal.returns-then-promote-clause-whole
-returns-then-promote-clause-whole g c = λ tell.
-    resident_whole c.args.self.now (g.H.Host.meaning.contents c.args.host.now) c.args.name
-    c.len.ensures.sound (c.requires.in_step tell)
+returns-then-promote-clause-whole g c = λ tells.
+    resident_whole c.args.self.now (g.H.Host.meaning.contents c.args.host.now) c.len.ensures.sound
+    (c.requires.in_step tells) c.args.name
     (subst (λ (v : CacheValue). Contains (names_of v) c.args.name) c.self.view_is
     (c.promote.ensures.found.0 c.if-promote.true))
 
-pub returns-then-promote-clause-reads : goal.returns-then-promote-clause-reads
-returns-then-promote-clause-reads g c =
-    subst (λ (v : CacheValue). IsReading g.H.Host.meaning v c.args.host.now (cache_of c.promote.new.self c.self.inside.unwritten)
-    c.args.host.now)
-    c.self.view_is (record {
-      leads = leads_none g.H.Host.meaning c.args.host.now (λ image. refl);
-      in_step = λ tell. fits_fewer c.args.self.now (cache_of c.promote.new.self c.self.inside.unwritten)
-          (g.H.Host.meaning.contents c.args.host.now)
-          (c.requires.in_step tell)
-          (λ h has. subst (λ (v : CacheValue). Contains v.held h) c.self.view_is (c.promote.ensures.fewer h has));
-      pages = c.promote.ensures.pages;
-      unwritten = refl;
-      was_sound = subst (λ (v : CacheValue). IsWriteThrough v.pages v.held) (sym c.self.view_is) c.len.ensures.sound;
-      sound = c.promote.ensures.sound;
-    })
+pub returns-then-promote-clause-ran : goal.returns-then-promote-clause-ran
+returns-then-promote-clause-ran g c = record {
+  writes = writes_moved g.H.Host.meaning c.args.self.now {old = c.args.host.now}
+      (cache_of c.promote.new.self c.self.inside.unwritten) {new = c.args.host.now} c.requires.in_step
+      (c.promote.ensures.pages ∙ ap (λ (v : CacheValue). v.pages) c.self.view_is)
+      (leads_none g.H.Host.meaning c.args.host.now (λ image. refl)) (omega arith) refl
+      (ap (λ (v : CacheValue). v.unwritten) c.self.view_is) c.len.ensures.sound c.args.name
+      (subst (λ (v : CacheValue). IsMoved c.args.name v.held c.promote.new.self.held) c.self.view_is
+      (c.promote.ensures.moved c.if-promote.true));
+  rose = search rules;
+  spared = λ _. refl;
+}
 
-pub returns-in_ok-place-in-Ok-clause-reads : goal.returns-in_ok-place-in-Ok-clause-reads
-returns-in_ok-place-in-Ok-clause-reads g c =
-    let same : c.take-frame.new.self.held ≡ c.self.inside.frames.held =
-    c.take-frame.ensures.held ∙ ap (λ (s : Stock). s.held) (c.promote.ensures.absent c.if-promote.false) in
-    subst (λ (v : CacheValue). IsReading g.H.Host.meaning v c.args.host.now (cache_of c.place.new.self c.self.inside.unwritten)
-    c.load.new.host)
-    c.self.view_is (record {
-      leads = c.load.ensures.ran.leads;
-      in_step = λ tell.
-          subst (Fits (cache_of c.place.new.self c.self.inside.unwritten)) (sym (stays_contents c.load.ensures.ran.leads))
-          (fits_loaded c.args.self.now (cache_of c.place.new.self c.self.inside.unwritten)
-          (g.H.Host.meaning.contents c.args.host.now) c.args.name c.load.new.frame.bytes.items c.requires.name
-          (c.in-Ok.ensures.page tell) (c.requires.in_step tell)
-          (λ h has. elim (c.in_ok-place-in-Ok.ensures.held h has) [
-            | inl one ↦ inl one
-            | inr one ↦ inr (
-              subst (λ (v : CacheValue). Contains v.held h) c.self.view_is
-                  (subst (λ l. Contains l h) same one.0),
-              one.1,
-            )
-          ]));
-      pages = c.place.ensures.pages ∙ c.take-frame.ensures.pages
-          ∙ ap (λ (s : Stock). s.pages) (c.promote.ensures.absent c.if-promote.false);
-      unwritten = refl;
-      was_sound = subst (λ (v : CacheValue). IsWriteThrough v.pages v.held) (sym c.self.view_is) c.len.ensures.sound;
-      sound = c.place.ensures.sound;
-    })
+pub make_room-requires : goal.make_room-requires
+make_room-requires g c =
+    let same : cache_of c.promote.new.self c.self.inside.unwritten ≡ c.args.self.now =
+    ap (λ s. cache_of s c.self.inside.unwritten) (c.promote.ensures.absent c.if-promote.false) ∙ c.self.view_is in
+    record {
+      in_step = subst (λ (v : CacheValue). IsInStep g.H.Host.meaning v c.args.host.now) (sym same) c.requires.in_step;
+    }
+
+pub returns-in_err-make_room-clause-ran : goal.returns-in_err-make_room-clause-ran
+returns-in_err-make_room-clause-ran g c =
+    let same : cache_of c.promote.new.self c.self.inside.unwritten ≡ c.args.self.now =
+    ap (λ s. cache_of s c.self.inside.unwritten) (c.promote.ensures.absent c.if-promote.false) ∙ c.self.view_is in
+    let ran = c.make_room.ensures.ran in
+    record {
+      writes = subst (λ (v : CacheValue). Writes g.H.Host.meaning [] v c.args.host.now c.make_room.new.self c.make_room.new.host)
+          same ran.writes;
+      rose = λ faulted. ran.rose (search rules);
+      spared = λ never. ran.spared (search rules);
+    }
+
+pub read_in-requires-clause-absent : goal.read_in-requires-clause-absent
+read_in-requires-clause-absent g c = λ has.
+    let there = subst (λ l. Contains l c.args.name)
+    (c.make_room.ensures.resident
+    ∙ ap (λ s. names_of (cache_of s c.self.inside.unwritten)) (c.promote.ensures.absent c.if-promote.false)) has in
+    let found = c.promote.ensures.found.1 there in
+    let never = c.if-promote.false in
+    (search rules)
+
+pub read_in-requires-clause-in_step : goal.read_in-requires-clause-in_step
+read_in-requires-clause-in_step g c = c.make_room.ensures.ran.writes.in_step
+
+pub returns-clause-ran : goal.returns-clause-ran
+returns-clause-ran g c =
+    let same : cache_of c.promote.new.self c.self.inside.unwritten ≡ c.args.self.now =
+    ap (λ s. cache_of s c.self.inside.unwritten) (c.promote.ensures.absent c.if-promote.false) ∙ c.self.view_is in
+    ran_again
+    (subst (λ (v : CacheValue). RanCached g.H.Host.meaning Fault [] v c.args.host.now c.make_room.new.self c.make_room.new.host
+    c.make_room.result) same c.make_room.ensures.ran)
+    (search rules) c.read_in.ensures.ran
+
+pub returns-clause-whole : goal.returns-clause-whole
+returns-clause-whole g c =
+    let same : cache_of c.promote.new.self c.self.inside.unwritten ≡ c.args.self.now =
+    ap (λ s. cache_of s c.self.inside.unwritten) (c.promote.ensures.absent c.if-promote.false) ∙ c.self.view_is in
+    let m = g.H.Host.meaning in
+    on_ok c.read_in.result c.read_in.ensures.whole (λ whole tells.
+    subst (λ (v : CacheValue). IsWhole v (m.contents c.args.host.now) c.args.name) same
+    (subst (λ l. HasPage l c.args.name.page)
+    (c.make_room.ensures.ran.writes.view tells c.args.name.file (no_file c.args.name.file)) (whole tells)))
+
+pub returns-clause-ends : goal.returns-clause-ends
+returns-clause-ends g c = λ other short tells whole.
+    let same : cache_of c.promote.new.self c.self.inside.unwritten ≡ c.args.self.now =
+    ap (λ s. cache_of s c.self.inside.unwritten) (c.promote.ensures.absent c.if-promote.false) ∙ c.self.view_is in
+    let m = g.H.Host.meaning in
+    c.read_in.ensures.ends other short tells
+    (subst (λ l. HasPage l c.args.name.page)
+    (sym (c.make_room.ensures.ran.writes.view tells c.args.name.file (no_file c.args.name.file)))
+    (subst (λ (v : CacheValue). IsWhole v (m.contents c.args.host.now) c.args.name) (sym same) whole))
+
+pub returns-clause-resident : goal.returns-clause-resident
+returns-clause-resident g c =
+    let same : cache_of c.promote.new.self c.self.inside.unwritten ≡ c.args.self.now =
+    ap (λ s. cache_of s c.self.inside.unwritten) (c.promote.ensures.absent c.if-promote.false) ∙ c.self.view_is in
+    on_ok c.read_in.result c.read_in.ensures.resident (λ is.
+    is ∙ ap (λ n. used n (c.args.name ∷ []) (names_of c.make_room.new.self))
+    (c.make_room.ensures.ran.writes.pages ∙ ap (λ (v : CacheValue). v.pages) same)
+    ∙ ap (λ l. used c.args.self.now.pages (c.args.name ∷ []) l) (c.make_room.ensures.resident ∙ ap names_of same))

@@ -1,6 +1,6 @@
 use Rattle.std.proofs.Common.{Some, None, ◌∙◌, sym, arith, vec_len, vec_capacity, refl}
 use Rattle.nb_cache.proofs.Counting.{gone_frames}
-use Rattle.nb_cache.proofs.Residents.{sound_now, gone_names, gone_held}
+use Rattle.nb_cache.proofs.Residents.{sound_now, gone_names, gone_held, gone_places}
 use Rattle.nb_cache.proofs.frames.Frames.forget.Goals as goal
 
 pub returns-in_default-clause-resident : goal.returns-in_default-clause-resident
@@ -16,6 +16,8 @@ returns-in_default-clause-held c =
 pub returns-in_default-clause-sound : goal.returns-in_default-clause-sound
 returns-in_default-clause-sound c =
     sound_now c.pop-gone.new.self 0 0 _ refl c.len-2.ensures.valid
+    (gone_places c.self.inside.resident (vec_len c.self.inside.spare) (vec_capacity c.self.inside.spare) c.args.self.now c.self.view_is c.args.name
+    c.pop-gone.new.self c.pop-gone.ensures.entries c.len.ensures.valid c.self.invariant)
 
 pub returns-in-Some-clause-resident : goal.returns-in-Some-clause-resident
 returns-in-Some-clause-resident c =
@@ -30,6 +32,8 @@ returns-in-Some-clause-held c =
 pub returns-in-Some-clause-sound : goal.returns-in-Some-clause-sound
 returns-in-Some-clause-sound c =
     sound_now c.pop-gone.new.self 0 0 _ refl c.len-2.ensures.valid
+    (gone_places c.self.inside.resident (vec_len c.self.inside.spare) (vec_capacity c.self.inside.spare) c.args.self.now c.self.view_is c.args.name
+    c.pop-gone.new.self c.pop-gone.ensures.entries c.len.ensures.valid c.self.invariant)
 
 pub returns-in-Some-clause-frames : goal.returns-in-Some-clause-frames
 returns-in-Some-clause-frames c =
@@ -40,3 +44,13 @@ pub returns-in_default-clause-frames : goal.returns-in_default-clause-frames
 returns-in_default-clause-frames c =
     gone_frames c.self.inside.resident (vec_len c.self.inside.spare) (vec_capacity c.self.inside.spare) c.args.self.now c.self.view_is _ c.requires c.args.name c.pop-gone.new.self c.pop-gone.ensures.entries None (sym c.in_default.is ∙ c.pop-gone.ensures.value) (vec_len c.self.inside.spare)
     (vec_capacity c.self.inside.spare) (omega arith) (omega arith)
+
+pub invariant_of-self : goal.invariant_of-self
+invariant_of-self c =
+    gone_places c.self.inside.resident (vec_len c.self.inside.spare) (vec_capacity c.self.inside.spare) c.args.self.now c.self.view_is c.args.name
+    c.pop-gone.new.self c.pop-gone.ensures.entries c.len.ensures.valid c.self.invariant
+
+pub invariant_of-self-in_default : goal.invariant_of-self-in_default
+invariant_of-self-in_default c =
+    gone_places c.self.inside.resident (vec_len c.self.inside.spare) (vec_capacity c.self.inside.spare) c.args.self.now c.self.view_is c.args.name
+    c.pop-gone.new.self c.pop-gone.ensures.entries c.len.ensures.valid c.self.invariant

@@ -21,7 +21,7 @@ loop-preserved c = (
   c.loop.invariant.0,
   forgets_next c.args.file c.loop.counter c.args.self.now c.loop.self c.in-Some.name c.loop.invariant.1
       (omega (arith, c.loop-test.true, c.loop.invariant.0)) (sym c.last.ensures ∙ c.in-Some.is) c.pass.new.self
-      c.pass.ensures.gone c.pass.ensures.moved c.pass.ensures.held c.pass.ensures.pages c.pass.ensures.frames
+      c.pass.ensures.gone c.pass.ensures.moved c.pass.ensures.others c.pass.ensures.pages c.pass.ensures.frames
       c.pass.ensures.sound,
 )
 

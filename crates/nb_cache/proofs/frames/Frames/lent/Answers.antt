@@ -1,5 +1,5 @@
-use Rattle.std.proofs.Common.{Some, option_map, false, vec_len, vec_capacity, ap, refl, sym, subst, ◌∙◌, is_some, ℕ, List, Contains}
-use Rattle.nb_cache.proofs.Residents.{resident_found, found_resident, lent_page, page_shown, nothing_waits}
+use Rattle.std.proofs.Common.{Some, option_map, vec_len, vec_capacity, ap, refl, sym, subst, ◌∙◌, is_some, ℕ, List, Contains}
+use Rattle.nb_cache.proofs.Residents.{resident_found, found_resident, lent_page, page_shown, sound_now}
 use Rattle.nb_cache.specs.declared.frame.Frame.{Frame}
 use Rattle.nb_cache.proofs.frames.Frames.lent.Goals as goal
 
@@ -11,14 +11,20 @@ returns-in-Some-clause-resident c = (
 )
 
 pub returns-in-Some-clause-held : goal.returns-in-Some-clause-held
-returns-in-Some-clause-held c =
-    subst (λ (bytes : List ℕ). Contains c.args.self.now.held (record { name = c.args.name; bytes = bytes; waiting = false }))
-    (sym c.deref.ensures.value)
-    (lent_page c.self.inside.resident (vec_len c.self.inside.spare) (vec_capacity c.self.inside.spare) c.args.self.now c.self.view_is c.args.name
-    c.in-Some.frame.now (sym c.in-Some.ensures))
+returns-in-Some-clause-held c = (
+  c.in-Some.frame.now.waiting,
+  subst (λ (bytes : List ℕ). Contains c.args.self.now.held
+      (record { name = c.args.name; bytes = bytes; waiting = c.in-Some.frame.now.waiting }))
+      (sym c.deref.ensures.value)
+      (lent_page c.self.inside.resident (vec_len c.self.inside.spare) (vec_capacity c.self.inside.spare) c.args.self.now c.self.view_is c.args.name
+      c.in-Some.frame.now (sym c.in-Some.ensures)),
+)
 
-pub returns-in-Some-clause-written : goal.returns-in-Some-clause-written
-returns-in-Some-clause-written c = nothing_waits c.self.inside.resident (vec_len c.self.inside.spare) (vec_capacity c.self.inside.spare) c.args.self.now c.self.view_is
+pub returns-in-Some-clause-sound : goal.returns-in-Some-clause-sound
+returns-in-Some-clause-sound c = sound_now c.self.inside.resident (vec_len c.self.inside.spare) (vec_capacity c.self.inside.spare) c.args.self.now c.self.view_is c.len.ensures.valid c.self.invariant
+
+pub returns-in-None-clause-sound : goal.returns-in-None-clause-sound
+returns-in-None-clause-sound c = sound_now c.self.inside.resident (vec_len c.self.inside.spare) (vec_capacity c.self.inside.spare) c.args.self.now c.self.view_is c.len.ensures.valid c.self.invariant
 
 pub returns-in-None-clause-resident : goal.returns-in-None-clause-resident
 returns-in-None-clause-resident c = (
@@ -26,9 +32,6 @@ returns-in-None-clause-resident c = (
   λ has. ap is_some c.in-None.ensures
       ∙ found_resident c.self.inside.resident (vec_len c.self.inside.spare) (vec_capacity c.self.inside.spare) c.args.self.now c.self.view_is c.args.name has,
 )
-
-pub returns-in-None-clause-written : goal.returns-in-None-clause-written
-returns-in-None-clause-written c = nothing_waits c.self.inside.resident (vec_len c.self.inside.spare) (vec_capacity c.self.inside.spare) c.args.self.now c.self.view_is
 
 pub returns-in-Some-clause-shown : goal.returns-in-Some-clause-shown
 returns-in-Some-clause-shown c =

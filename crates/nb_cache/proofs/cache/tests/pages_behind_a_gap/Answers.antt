@@ -1,0 +1,4 @@
+use Rattle.nb_cache.proofs.cache.tests.pages_behind_a_gap.Goals as goal
+
+pub put_byte-requires-clause-in_step : goal.put_byte-requires-clause-in_step
+put_byte-requires-clause-in_step g c = λ _. c.in_ok-cache.ensures.fits _
