@@ -2,12 +2,12 @@
 -- gets.
 use Rattle.std.proofs.Common.{◌≡◌, ℕ, ◌+◌, ◌<◌, ◌≤◌, IsTrue, IsOk, Result, Err, List, [], ◌∷◌, length, refl, sym, ap, subst, ◌∙◌, arith}
 use Rattle.std.specs.Prelude.{◌≢◌, All}
-use Rattle.nb_host.specs.Faults.{Rose}
 use Rattle.nb_host.specs.Image.{Image, overwritten, IsOverwritten}
 use Rattle.nb_host.specs.Meaning.{HostModel}
 use Rattle.nb_host.specs.Page.{HasPage, page_of, page_start}
 use Rattle.nb_host.specs.declared.page_name.PageName.{PageName}
 use Rattle.nb_host.specs.declared.page_name.TheConstants.{PAGE_SIZE}
+use Rattle.nb_host.proofs.Callers.{ok_is_no_error, stopped_after}
 use Rattle.nb_cache.specs.InStep.{IsInStep, Fits}
 use Rattle.nb_cache.specs.View.{CacheValue, view_of, seen, Seen, Same}
 use Rattle.nb_cache.specs.Writes.{Writes, RanCached}
@@ -66,18 +66,19 @@ walks_on {t = t} {page = page} next walks later past leads ran ok = record {
   comes = λ tells. comes_on (walks.comes tells) (past_before walks tells (past tells))
       (ap (λ l. next_of l page) (sym (still t.file walks.writes tells)) ∙ leads tells) (λ none. omega (arith, later.0));
   writes = writes_again walks.writes ran.writes;
-  spared = ran.spared ok ∙ walks.spared;
+  spared = ran.spared (ok_is_no_error ok) ∙ walks.spared;
 }
 
 -- a call behind it
 pub walks_ran : {H T U D E : Type 0} {m : HostModel H} {t : CellTable} {key page : ℕ} {old_cache middle_cache new_cache : CacheValue}
     {old middle new : H} {early : D} {fault : E} {one : Result T D} {result : Result U E}
     → Walks m t key old_cache old page middle_cache middle → RanCached m early [] middle_cache middle new_cache new one
-    → (result ≡ Err fault → one ≡ Err early) → (IsOk result → IsOk one) → RanCached m fault [] old_cache old new_cache new result
-walks_ran {m = m} {new = new} walks ran fault ok = record {
+    → (result ≡ Err fault → one ≡ Err early) → (one ≡ Err early → result ≡ Err fault)
+    → RanCached m fault [] old_cache old new_cache new result
+walks_ran walks ran there back = record {
   writes = writes_again walks.writes ran.writes;
-  rose = λ faulted. subst (λ n. Rose n (m.faults new)) walks.spared (ran.rose (fault faulted));
-  spared = λ is. ran.spared (ok is) ∙ walks.spared;
+  rose = λ faulted. stopped_after walks.spared (ran.rose (there faulted));
+  spared = λ never. ran.spared (λ faulted. never (back faulted)) ∙ walks.spared;
 }
 
 -- a page without a next page is the end
@@ -222,7 +223,7 @@ pub makes_none : {H T E : Type 0} {m : HostModel H} {old_cache new_cache : Cache
 makes_none {m = m} {new_cache = new_cache} {new = new} file none ran ok = record {
   pages = λ tells. no_pages (seen m new_cache new file) (none tells);
   writes = ran.writes;
-  spared = ran.spared ok;
+  spared = ran.spared (ok_is_no_error ok);
 }
 
 pub makes_next : {H T E : Type 0} {m : HostModel H} {file count : ℕ} {old_cache middle_cache new_cache : CacheValue}
@@ -237,17 +238,17 @@ makes_next {m = m} {file = file} {count = count} {middle_cache = middle_cache} {
           subst (λ l. HasEmptyPages l (count + 1)) (sym (put.told tells))
           (one_page_more (seen m middle_cache middle file) bytes count (makes.pages tells) empty full);
       writes = writes_again makes.writes ran.writes;
-      spared = ran.spared ok ∙ makes.spared;
+      spared = ran.spared (ok_is_no_error ok) ∙ makes.spared;
     }
 
 -- a call behind them
 pub makes_ran : {H T U D E : Type 0} {m : HostModel H} {file count : ℕ} {old_cache middle_cache new_cache : CacheValue}
     {old middle new : H} {early : D} {fault : E} {one : Result T D} {result : Result U E}
     → Makes m file old_cache old count middle_cache middle → RanCached m early (file ∷ []) middle_cache middle new_cache new one
-    → (result ≡ Err fault → one ≡ Err early) → (IsOk result → IsOk one)
+    → (result ≡ Err fault → one ≡ Err early) → (one ≡ Err early → result ≡ Err fault)
     → RanCached m fault (file ∷ []) old_cache old new_cache new result
-makes_ran {m = m} {new = new} makes ran fault ok = record {
+makes_ran makes ran there back = record {
   writes = writes_again makes.writes ran.writes;
-  rose = λ faulted. subst (λ n. Rose n (m.faults new)) makes.spared (ran.rose (fault faulted));
-  spared = λ is. ran.spared (ok is) ∙ makes.spared;
+  rose = λ faulted. stopped_after makes.spared (ran.rose (there faulted));
+  spared = λ never. ran.spared (λ faulted. never (back faulted)) ∙ makes.spared;
 }

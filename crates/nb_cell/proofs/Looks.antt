@@ -10,7 +10,7 @@ use Rattle.nb_record.specs.declared.sizes.TheConstants.{CELLS_PER_PAGE}
 use Rattle.nb_record.specs.Fields.{word}
 use Rattle.nb_record.specs.Pages.{page_number, page_count, page_next, read_cell_page, IsCellPage}
 use Rattle.nb_record.specs.Records.{cells_of}
-use Rattle.nb_record.specs.Looking.{place_of_key, IsLookOn, IsLookAt, IsLook}
+use Rattle.nb_record.specs.Looking.{index_of_key, IsLookOn, IsLookAt, IsLook}
 use Rattle.nb_record.proofs.Callers.{cells_checked, key_lacking}
 
 -- the answer where the key isn't on the page
@@ -26,7 +26,7 @@ look_past : (key page : ℕ) (bytes : List ℕ) (shown : Option (List ℕ)) (loo
     → IsLook key page shown look → IsCellPage page bytes → All (λ c. c.key ≢ key) (cells_of bytes) → look ≡ after (page_next bytes)
 look_past key page bytes shown look there is form lacks =
     let at : IsLookAt key page (read_cell_page page bytes) look = subst (λ s. IsLook key page s look) there is in
-    let on : IsLookOn page bytes (place_of_key key bytes) look = subst (λ r. IsLookAt key page r look) ((cells_checked page bytes).1 form) at in
+    let on : IsLookOn page bytes (index_of_key key bytes) look = subst (λ r. IsLookAt key page r look) ((cells_checked page bytes).1 form) at in
     subst (λ i. IsLookOn page bytes i look) ((key_lacking bytes key).1 lacks) on
 
 -- it answers Gone or a next page
@@ -68,7 +68,7 @@ said_after key page bytes form lacks =
           (record { form = form; lacks = lacks; next = refl })
     ]
 
-said_on : (key page : ℕ) (bytes : List ℕ) (place : Option ℕ) (look : Look) → IsCellPage page bytes → place_of_key key bytes ≡ place
+said_on : (key page : ℕ) (bytes : List ℕ) (place : Option ℕ) (look : Look) → IsCellPage page bytes → index_of_key key bytes ≡ place
     → IsLookOn page bytes place look → IsSaid key page bytes look
 said_on key page bytes (Some i) look form at is = elim is [
   | inl found ↦ subst (IsSaid key page bytes) (sym found.1) tt
@@ -87,7 +87,7 @@ said_checked : (number count next zeros : Bool) (key page : ℕ) (bytes : List �
     → read_cell_page page bytes ≡ checks number count next zeros bytes
     → IsLookAt key page (checks number count next zeros bytes) look → IsSaid key page bytes look
 said_checked true true true true key page bytes look checked is =
-    said_on key page bytes (place_of_key key bytes) look ((cells_checked page bytes).0 checked) refl is
+    said_on key page bytes (index_of_key key bytes) look ((cells_checked page bytes).0 checked) refl is
 said_checked true true true false key page bytes look checked is = subst (IsSaid key page bytes) (sym is) tt
 said_checked true true false zeros key page bytes look checked is = subst (IsSaid key page bytes) (sym is) tt
 said_checked true false next zeros key page bytes look checked is = subst (IsSaid key page bytes) (sym is) tt

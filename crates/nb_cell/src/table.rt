@@ -283,6 +283,7 @@ fn of_host(outcome: Result<(), CacheError>) -> Result<(), HostError>
     requires { (name : PageNames) → outcome ≢ Err (CacheError.Short name) }
     ensures done { OnOk result (IsOk outcome) }
     ensures fault { result ≡ Err HostError.Fault → outcome ≡ Err CacheError.Fault }
+    ensures handed_on { outcome ≡ Err CacheError.Fault → result ≡ Err HostError.Fault }
 {
     match outcome {
         Ok(()) => Ok(()),

@@ -107,6 +107,7 @@ fn a_chain_of_two_pages(rt: HostRuntime) -> Result<(), Fail> {
     let mut host = MemoryHost::new(alloc);
     let mut cache = Cache::new(alloc, 4)?;
     let mut table = CellTable::make(&mut host, &mut cache, FILE, 0)?;
+    assert_eq!(rt; cache.flush(&mut host), Ok(()));
     assert_eq!(rt; header(host.bytes(FILE), 0), Some((0, 0)));
     insert_keys(&mut host, &mut cache, &mut table, 1, 2)?;
     insert_keys(&mut host, &mut cache, &mut table, 8, 16)?;
@@ -119,6 +120,7 @@ fn a_chain_of_two_pages(rt: HostRuntime) -> Result<(), Fail> {
             pages: 2
         }
     );
+    assert_eq!(rt; cache.flush(&mut host), Ok(()));
     assert_eq!(rt; host.bytes(FILE).len(), 2 * PAGE_SIZE);
     assert_eq!(rt; header(host.bytes(FILE), 0), Some((63, 1)));
     assert_eq!(rt; header(host.bytes(FILE), 1), Some((1, 0)));
@@ -148,6 +150,7 @@ fn more_chains_than_pages_in_the_cache(rt: HostRuntime) -> Result<(), Fail> {
     insert_keys(&mut host, &mut cache, &mut table, 8, 16)?;
     insert_keys(&mut host, &mut cache, &mut table, 64, 128)?;
     assert_eq!(rt; table.pages, 8);
+    assert_eq!(rt; cache.flush(&mut host), Ok(()));
     assert_eq!(rt; host.bytes(FILE).len(), 8 * PAGE_SIZE);
     for page in 0..8 {
         assert_eq!(rt; header(host.bytes(FILE), page), Some((9, 0)), "page {page}");
@@ -221,11 +224,12 @@ fn a_full_page_and_calls_that_fail(rt: HostRuntime) -> Result<(), Fail> {
     let (answer, pages) = insert_on(alloc, &page, &[])?;
     assert_eq!(rt; answer, Ok(()));
     assert_eq!(rt; pages, 2);
-    // The page is read, the new one put, and then the page that leads to it.
-    for call in 1..4 {
-        let (answer, pages) = insert_on(alloc, &page, &[call])?;
-        assert_eq!(rt; answer, Err(CellError::Fault), "call {call}");
-        assert_eq!(rt; pages, 1, "call {call}");
-    }
+    // The page is read. The new one, and then the page that leads to it, wait in the cache.
+    let (answer, pages) = insert_on(alloc, &page, &[1])?;
+    assert_eq!(rt; answer, Err(CellError::Fault));
+    assert_eq!(rt; pages, 1);
+    let (answer, pages) = insert_on(alloc, &page, &[2])?;
+    assert_eq!(rt; answer, Ok(()));
+    assert_eq!(rt; pages, 2);
     Ok(())
 }

@@ -6,7 +6,7 @@ use Rattle.nb_record.specs.Order.{HoldsKickedBodies}
 use Rattle.nb_order.specs.Files.{IsPushed}
 use Rattle.nb_order.proofs.Pushing.{kicks_pushed}
 -- the files that hold a list, and why one can't be sorted
-pub use Rattle.nb_order.proofs.Reading.{is_listed, held_room, never_unsortable}
+pub use Rattle.nb_order.proofs.Reading.{is_listed, held_room, held_first, first_of, length-first_of, first_of-at, never_unsortable}
 
 -- a file with one body more, each with the kick that it is to have
 pub kicked_pushed : {old new : List ℕ} {kick : Body → V3} {bodies : List Body} {body : Body} {own : V3} → HoldsKickedBodies old kick bodies

@@ -16,7 +16,7 @@ use Rattle.nb_record.specs.Fields.{word}
 use Rattle.nb_record.specs.declared.header.PageError.TheVariants.{Number, Count, Next}
 use Rattle.nb_record.specs.Pages.{page_number, page_count, page_next, read_body_page, IsBodyPage}
 use Rattle.nb_record.specs.Records.{body_record, body_of, kick_of, IsBodyRecord}
-use Rattle.nb_record.proofs.Callers.{page_within, place_within}
+use Rattle.nb_record.proofs.Callers.{page_within, index_within}
 use Rattle.nb_order.specs.Files.{page_of_body, HasBody, HasRoomFor, IsBodyAt, IsUnsortable}
 use Rattle.nb_order.specs.Places.{HasFirst}
 use Rattle.nb_order.specs.Refusals.{IsNoBody, HasNoRoom}
@@ -98,7 +98,7 @@ held_first file bodies holds = record {
       record {
         whole = page_is_whole (j / BODIES_PER_PAGE) (pages_for (length bodies)) (length file) holds.whole page;
         form = holds.pages (j / BODIES_PER_PAGE) page;
-        within = subst (λ n. j % BODIES_PER_PAGE < n) (sym (holds.counts (j / BODIES_PER_PAGE) page)) (place_within (length bodies) j below);
+        within = subst (λ n. j % BODIES_PER_PAGE < n) (sym (holds.counts (j / BODIES_PER_PAGE) page)) (index_within (length bodies) j below);
         body = holds.records j below;
       };
   held = holds.held;

@@ -6,6 +6,7 @@ ghost use Rattle.nb_model.specs.Valid.{IsBelow, IsValidBody};
 ghost use Rattle.nb_cache.specs.InStep.{IsInStep};
 
 use super::*;
+use nb_cache::CacheError;
 use nb_host::MemoryHost;
 use nb_model::At;
 use std::alloc::Global;
@@ -63,6 +64,7 @@ fn two_pages_of_bodies(rt: HostRuntime) -> Result<(), Fail> {
     let mut host = MemoryHost::new(alloc);
     let mut cache = Cache::new(alloc, 4)?;
     assert_eq!(rt; push_bodies(&mut host, &mut cache, 64), Ok(()));
+    assert_eq!(rt; cache.flush(&mut host), Ok(()));
     assert_eq!(rt; host.bytes(FILE).len(), 8192);
     assert_eq!(rt; body_at(&mut host, &mut cache, FILE, 45), Ok(body(45)));
     assert_eq!(rt; kick_at(&mut host, &mut cache, FILE, 45), Ok(kick(45)));
@@ -99,6 +101,7 @@ fn a_body_of_another_number(rt: HostRuntime) -> Result<(), Fail> {
         push_body(&mut host, &mut cache, FILE, 1, &body(1), &kick(1)),
         Ok(())
     );
+    assert_eq!(rt; cache.flush(&mut host), Ok(()));
     assert_eq!(rt; host.bytes(FILE).len(), 4096);
     assert_eq!(rt; body_at(&mut host, &mut cache, FILE, 1), Ok(body(1)));
     Ok(())
@@ -153,15 +156,15 @@ fn a_write_that_fails(rt: HostRuntime) -> Result<(), Fail> {
     let mut host = MemoryHost::new(alloc);
     let mut cache = Cache::new(alloc, 4)?;
     host.fail_at(&[1])?;
-    assert_eq!(rt;
-        push_body(&mut host, &mut cache, FILE, 0, &body(0), &kick(0)),
-        Err(OrderError::Fault)
-    );
+    // The body waits in the cache, and still does where its page can't be written.
     assert_eq!(rt;
         push_body(&mut host, &mut cache, FILE, 0, &body(0), &kick(0)),
         Ok(())
     );
+    assert_eq!(rt; cache.flush(&mut host), Err(CacheError::Fault));
     assert_eq!(rt; body_at(&mut host, &mut cache, FILE, 0), Ok(body(0)));
+    assert_eq!(rt; cache.flush(&mut host), Ok(()));
+    assert_eq!(rt; host.bytes(FILE).len(), 4096);
     assert_eq!(rt; host.faults(), 1);
     Ok(())
 }

@@ -71,6 +71,7 @@ fn bodies_are_sorted(rt: HostRuntime) -> Result<(), Fail> {
         push_body(&mut host, &mut cache, FROM, 2, &body(3, 0, false), &kick(3)),
         Ok(())
     );
+    assert_eq!(rt; cache.flush(&mut host), Ok(()));
     let from = Vec::from_slice(alloc, host.bytes(FROM))?;
     let by_key = reorder(&mut host, &mut cache, &mut sorter, &ByKey, FROM, TO, 3);
     assert_eq!(rt; by_key, Ok(()));
@@ -97,6 +98,7 @@ fn bodies_are_sorted(rt: HostRuntime) -> Result<(), Fail> {
         body_at(&mut host, &mut cache, TO, 2),
         Ok(body(3, 0, false))
     );
+    assert_eq!(rt; cache.flush(&mut host), Ok(()));
     assert_eq!(rt; host.bytes(TO).len(), 4096);
     assert_eq!(rt; host.bytes(FROM), from.as_slice());
     Ok(())
@@ -152,6 +154,7 @@ fn pages_of_bodies_are_sorted(rt: HostRuntime) -> Result<(), Fail> {
             Ok(())
         );
     }
+    assert_eq!(rt; cache.flush(&mut host), Ok(()));
     let from = Vec::from_slice(alloc, host.bytes(FROM))?;
     assert_eq!(rt; from.len(), 3 * 4096);
     assert_eq!(rt;
@@ -166,6 +169,7 @@ fn pages_of_bodies_are_sorted(rt: HostRuntime) -> Result<(), Fail> {
             "body {index}"
         );
     }
+    assert_eq!(rt; cache.flush(&mut host), Ok(()));
     assert_eq!(rt; host.bytes(TO).len(), 3 * 4096);
     assert_eq!(rt; host.bytes(FROM), from.as_slice());
     let page = PageName {

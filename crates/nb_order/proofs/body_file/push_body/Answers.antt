@@ -63,12 +63,12 @@ returns-in_err-put-clause-ran g c =
     let handed_on : c.from_residual-in_err-put.result ≡ Err (of_cache c.in_err-put.field-0.0) = search rules in
     ran_as (ran_then c.open_page.ensures.ran (search rules) put)
     (λ faulted. c.in_err-put.was ∙ ap Err (fault_handed_on c.in_err-put.field-0.0 (cc)))
-    (λ ok. search rules)
+    (λ error. search rules)
 
 pub returns-clause-ran : goal.returns-clause-ran
 returns-clause-ran g c =
     let put = rw (ap (λ (n : PageName). n.file) c.page_name-name.ensures.value) at c.put.ensures.ran in
-    ran_as (ran_then c.open_page.ensures.ran (search rules) put) (λ faulted. absurd (cc)) (λ ok. search rules)
+    ran_as (ran_then c.open_page.ensures.ran (search rules) put) (λ faulted. absurd (cc)) (λ error. search rules)
 
 pub returns-in_err-put-clause-stays : goal.returns-in_err-put-clause-stays
 returns-in_err-put-clause-stays g c =

@@ -4,7 +4,7 @@ use Rattle.std.specs.BTreeMap.{values}
 use Rattle.std.proofs.lemmas.List.Elements.{All-tail}
 use Rattle.std.proofs.lemmas.Map.Entries.{length-values_of}
 use Rattle.nb_model.specs.Limits.{most_bodies}
-use Rattle.nb_host.proofs.Callers.{rose_from_less}
+use Rattle.nb_host.proofs.Callers.{stopped_after}
 use Rattle.nb_cache.specs.View.{seen}
 use Rattle.nb_cache.proofs.Callers.{other_file, writes_begins, writes_again}
 use Rattle.nb_order.specs.Places.{HasFirst, AreNumbersOf, IsCopyOf}
@@ -67,8 +67,9 @@ returns-in_err-copy_body-clause-ran g c = record {
   writes = writes_again c.loop-index.invariant.writes c.copy_body.ensures.ran.writes;
   rose = λ faulted.
       let error : c.copy_body.result ≡ Err Fault = search rules in
-      rose_from_less c.loop-index.invariant.writes.count (c.copy_body.ensures.ran.rose error);
-  spared = search rules;
+      stopped_after c.loop-index.invariant.spared (c.copy_body.ensures.ran.rose error);
+  spared = λ never.
+      c.copy_body.ensures.ran.spared (λ error. never (search rules)) ∙ c.loop-index.invariant.spared;
 }
 
 pub returns-clause-ran : goal.returns-clause-ran

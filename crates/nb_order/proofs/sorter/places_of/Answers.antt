@@ -3,7 +3,7 @@ use Rattle.std.specs.Prelude.{All, ◌⊎◌}
 use Rattle.std.specs.Map.{values_of}
 use Rattle.std.proofs.lemmas.List.Elements.{All-nil}
 use Rattle.nb_host.specs.declared.page_name.PageName.{PageName}
-use Rattle.nb_host.proofs.Callers.{rose_from_less}
+use Rattle.nb_host.proofs.Callers.{stopped_after}
 use Rattle.nb_cache.specs.View.{seen}
 use Rattle.nb_cache.proofs.Callers.{no_file, writes_begins, writes_again}
 use Rattle.nb_order.specs.Files.{HasBody, IsDouble}
@@ -60,8 +60,9 @@ returns-in_err-add_place-clause-ran g c = record {
   writes = writes_again c.loop-index.invariant.writes c.add_place.ensures.ran.writes;
   rose = λ faulted.
       let error : c.add_place.result ≡ Err Fault = search rules in
-      rose_from_less c.loop-index.invariant.writes.count (c.add_place.ensures.ran.rose error);
-  spared = search rules;
+      stopped_after c.loop-index.invariant.spared (c.add_place.ensures.ran.rose error);
+  spared = λ never.
+      c.add_place.ensures.ran.spared (λ error. never (search rules)) ∙ c.loop-index.invariant.spared;
 }
 
 pub returns-clause-ran : goal.returns-clause-ran

@@ -89,4 +89,4 @@ returns-in_err-empty-clause-ran g c =
     let handed_on : c.from_residual-in_err-empty.result ≡ Err (of_cache c.in_err-empty.field-0.0) = search rules in
     ran_as (ran_then c.places_of.ensures.ran (search rules) c.empty.ensures.ran)
     (λ faulted. c.in_err-empty.was ∙ ap Err (fault_handed_on c.in_err-empty.field-0.0 (cc)))
-    (λ ok. search rules)
+    (λ error. search rules)

@@ -93,7 +93,7 @@ returns-in_err-add_page-clause-kept g c =
 pub returns-in_err-add_page-clause-ran : goal.returns-in_err-add_page-clause-ran
 returns-in_err-add_page-clause-ran g c =
     ran_as (ran_then c.last_page.ensures.ran (search rules) c.add_page.ensures.ran)
-    (λ faulted. let error : c.add_page.result ≡ Err Fault = search rules in error) (λ ok. search rules)
+    (λ faulted. let error : c.add_page.result ≡ Err Fault = search rules in error) (λ error. search rules)
 
 pub returns-in_err-put_page-clause-kept : goal.returns-in_err-put_page-clause-kept
 returns-in_err-put_page-clause-kept g c =
@@ -107,7 +107,7 @@ pub returns-in_err-put_page-clause-ran : goal.returns-in_err-put_page-clause-ran
 returns-in_err-put_page-clause-ran g c =
     ran_as
     (ran_again (ran_then c.last_page.ensures.ran (search rules) c.add_page.ensures.ran) (search rules) c.put_page-2.ensures.ran)
-    (λ faulted. let error : c.put_page-2.result ≡ Err Fault = search rules in error) (λ ok. search rules)
+    (λ faulted. let error : c.put_page-2.result ≡ Err Fault = search rules in error) (λ error. search rules)
 
 pub returns-clause-inserted : goal.returns-clause-inserted
 returns-clause-inserted g c =
@@ -130,4 +130,4 @@ pub returns-clause-ran : goal.returns-clause-ran
 returns-clause-ran g c =
     ran_as
     (ran_again (ran_then c.last_page.ensures.ran (search rules) c.add_page.ensures.ran) (search rules) c.put_page-2.ensures.ran)
-    (λ faulted. absurd (cc)) (λ ok. search rules)
+    (λ faulted. absurd (cc)) (λ error. search rules)

@@ -28,7 +28,7 @@ returns-in_err-next-clause-damaged g c = λ name is.
 pub returns-in_err-next-clause-ran : goal.returns-in_err-next-clause-ran
 returns-in_err-next-clause-ran g c =
     walks_ran c.loop-next.invariant c.next_page.ensures.ran
-    (λ faulted. let error : c.next_page.result ≡ Err Fault = search rules in error) (λ ok. search rules)
+    (λ faulted. let error : c.next_page.result ≡ Err Fault = search rules in error) (λ error. search rules)
 
 pub loop-next-preserved : goal.loop-next-preserved
 loop-next-preserved g c =
@@ -42,4 +42,4 @@ returns-in-None-clause-ends g c =
 
 pub returns-in-None-clause-ran : goal.returns-in-None-clause-ran
 returns-in-None-clause-ran g c =
-    walks_ran c.loop-next.invariant c.next_page.ensures.ran (λ faulted. absurd (cc)) (λ ok. search rules)
+    walks_ran c.loop-next.invariant c.next_page.ensures.ran (λ faulted. absurd (cc)) (λ error. search rules)

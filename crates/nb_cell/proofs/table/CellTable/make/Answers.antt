@@ -21,7 +21,7 @@ pub returns-in_err-of_host-2-clause-ran : goal.returns-in_err-of_host-2-clause-r
 returns-in_err-of_host-2-clause-ran g c =
     makes_ran c.loop-page.invariant c.put.ensures.ran
     (λ faulted. let error : c.of_host-in-loop-page.result ≡ Err host.Fault = search rules in c.of_host-in-loop-page.ensures.fault error)
-    (λ ok. search rules)
+    (λ error. search rules)
 
 pub loop-page-preserved : goal.loop-page-preserved
 loop-page-preserved g c =
