@@ -9,6 +9,8 @@ pub mod Snapshots
 pub mod Reading
 pub mod SnapshotRefusals
 pub mod Writing
+pub mod Closing
+pub mod Callers
 pub mod Numerals
 pub mod ParamsLines
 pub mod Settings

@@ -12,7 +12,8 @@ use Rattle.std.proofs.Math.Logic.{⊎_elim}
 use Rattle.nb_model.specs.declared.body.Body.{Body}
 use Rattle.nb_model.specs.Limits.{most_bodies}
 use Rattle.nb_format.specs.declared.snap_reader.SnapReader.{SnapReader}
-use Rattle.nb_format.specs.Snapshot.{header_bytes, record_bytes, snapshot_length, IsStoredBody, AreStoredBodies}
+use Rattle.nb_model.specs.Bytes.{body_bytes}
+use Rattle.nb_format.specs.Snapshot.{header_bytes, snapshot_length, IsStoredBody, AreStoredBodies}
 use Rattle.nb_format.specs.Reader.{count_of, time_of, read_count, last_id, last_of, HasRead, MayFollow, IsBehind, IsFrontOf, next_refusal}
 use Rattle.nb_format.specs.SnapshotRefusal.{record_refusal}
 use Rattle.nb_format.proofs.HeaderBytes.{length-header_bytes}
@@ -81,17 +82,17 @@ stored-push bodies b stored fits above few = record {
 
 -- the records that the reader has read
 pub read_records : (reader : SnapReader) (bytes : List ℕ) (bodies : List Body) → HasRead reader bytes bodies
-    → take (64 * length bodies) (drop 32 bytes) ≡ flat_map record_bytes bodies
+    → take (64 * length bodies) (drop 32 bytes) ≡ flat_map body_bytes bodies
 read_records reader bytes bodies has =
     sym (drop-take 32 (64 * length bodies) bytes) ∙ ap (drop 32) has.begins
-    ∙ drop_at (header_bytes (count_of reader) (time_of reader)) (flat_map record_bytes bodies) 32 (length-header_bytes (count_of reader) (time_of reader))
+    ∙ drop_at (header_bytes (count_of reader) (time_of reader)) (flat_map body_bytes bodies) 32 (length-header_bytes (count_of reader) (time_of reader))
 
 -- the header that the reader has read
 pub read_header : (reader : SnapReader) (bytes : List ℕ) (bodies : List Body) → HasRead reader bytes bodies
     → take 32 bytes ≡ header_bytes (count_of reader) (time_of reader)
 read_header reader bytes bodies has =
     sym (take-take 32 (snapshot_length (length bodies)) bytes (omega arith)) ∙ ap (take 32) has.begins
-    ∙ take_at (header_bytes (count_of reader) (time_of reader)) (flat_map record_bytes bodies) 32 (length-header_bytes (count_of reader) (time_of reader))
+    ∙ take_at (header_bytes (count_of reader) (time_of reader)) (flat_map body_bytes bodies) 32 (length-header_bytes (count_of reader) (time_of reader))
 
 -- what is read whole lies within the file
 pub whole_inside : (file w : List ℕ) (at : ℕ) → w ≡ take 64 (drop at file) → length w ≡ 64 → at + 64 ≤ length file
@@ -112,16 +113,16 @@ front_reads bytes file w at front is long =
 -- one more body is read
 pub read_more : (old new : SnapReader) (bytes : List ℕ) (bodies : List Body) (b : Body) → HasRead old bytes bodies → MayFollow old b
     → IsBehind b old new → count_of old ≤ most_bodies → read_count old < count_of old
-    → take 64 (drop (snapshot_length (read_count old)) bytes) ≡ record_bytes b → HasRead new bytes (bodies ++ b ∷ [])
+    → take 64 (drop (snapshot_length (read_count old)) bytes) ≡ body_bytes b → HasRead new bytes (bodies ++ b ∷ [])
 read_more old new bytes bodies b has follows behind few more is =
     let above = subst (λ (last : Option ℕ). IfSome last (λ id. id < b.id)) has.last follows.rises in
     let length_more : length (bodies ++ b ∷ []) ≡ length bodies + 1 = length_push bodies b in
     let header = header_bytes (count_of old) (time_of old) in
-    let record_at : take 64 (drop (snapshot_length (length bodies)) bytes) ≡ record_bytes b =
+    let record_at : take 64 (drop (snapshot_length (length bodies)) bytes) ≡ body_bytes b =
     ap (λ (n : ℕ). take 64 (drop (snapshot_length n) bytes)) (sym has.read) ∙ is in
-    let records : flat_map record_bytes bodies ++ record_bytes b ≡ flat_map record_bytes (bodies ++ b ∷ []) =
-    ap (λ (w : List ℕ). flat_map record_bytes bodies ++ w) (sym (append-nil (record_bytes b)))
-    ∙ sym (flat_map-append record_bytes bodies (b ∷ [])) in
+    let records : flat_map body_bytes bodies ++ body_bytes b ≡ flat_map body_bytes (bodies ++ b ∷ []) =
+    ap (λ (w : List ℕ). flat_map body_bytes bodies ++ w) (sym (append-nil (body_bytes b)))
+    ∙ sym (flat_map-append body_bytes bodies (b ∷ [])) in
     let far : snapshot_length (length (bodies ++ b ∷ [])) ≡ snapshot_length (length bodies) + 64 = omega arith in
     record {
       whole = has.whole ∙ ap snapshot_length (sym behind.count);
@@ -130,11 +131,11 @@ read_more old new bytes bodies b has follows behind few more is =
       stored = stored-push bodies b has.stored follows.stored above (omega (arith, has.read));
       begins = ap (λ (n : ℕ). take n bytes) far ∙ take-add (snapshot_length (length bodies)) 64 bytes
           ∙ ap (λ (w : List ℕ). w ++ take 64 (drop (snapshot_length (length bodies)) bytes)) has.begins
-          ∙ ap (λ (w : List ℕ). (header ++ flat_map record_bytes bodies) ++ w) record_at
-          ∙ append_assoc header (flat_map record_bytes bodies) (record_bytes b)
+          ∙ ap (λ (w : List ℕ). (header ++ flat_map body_bytes bodies) ++ w) record_at
+          ∙ append_assoc header (flat_map body_bytes bodies) (body_bytes b)
           ∙ ap (λ (w : List ℕ). header ++ w) records
-          ∙ ap (λ (n : ℕ). header_bytes n (time_of old) ++ flat_map record_bytes (bodies ++ b ∷ [])) (sym behind.count)
-          ∙ ap (λ (t : ℕ). header_bytes (count_of new) t ++ flat_map record_bytes (bodies ++ b ∷ [])) (sym behind.time);
+          ∙ ap (λ (n : ℕ). header_bytes n (time_of old) ++ flat_map body_bytes (bodies ++ b ∷ [])) (sym behind.count)
+          ∙ ap (λ (t : ℕ). header_bytes (count_of new) t ++ flat_map body_bytes (bodies ++ b ∷ [])) (sym behind.time);
     }
 
 -- of a file that holds the record whole it is the record that is looked at

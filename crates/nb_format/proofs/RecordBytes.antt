@@ -7,15 +7,16 @@ use Rattle.nb_model.specs.declared.body.Body.{Body}
 use Rattle.nb_model.specs.Valid.{IsValidBody}
 use Rattle.nb_format.specs.declared.record.Fields.{Fields}
 use Rattle.nb_format.specs.declared.snap_error.SnapError.{SnapError}
-use Rattle.nb_format.specs.Snapshot.{record_bytes, FitsRecord, IsStoredBody}
+use Rattle.nb_model.specs.Bytes.{body_bytes}
+use Rattle.nb_format.specs.Snapshot.{FitsRecord, IsStoredBody}
 use Rattle.nb_format.specs.Fields.{fields_of, fields_bytes}
 use Rattle.nb_format.proofs.Parts.{StandIn, nine_stand, nine_from_stand, nine_put}
 use Rattle.nb_format.proofs.Numbers.{same_u32, same_u64}
 
 -- a body's record is the spelling of its fields
-pub record_bytes_is : (b : Body) → record_bytes b ≡ fields_bytes (fields_of b)
-unfolding record_bytes fields_bytes
-record_bytes_is b = refl
+pub body_bytes_is : (b : Body) → body_bytes b ≡ fields_bytes (fields_of b)
+unfolding body_bytes fields_bytes
+body_bytes_is b = refl
 
 pub signed_back : (n : ℕ) (z : ℤ) → n < 2 ^ 64 → z ≡ cast_signed w64 n
     → cast_unsigned w64 (cast_signed w64 (cast_unsigned w64 z)) ≡ n
@@ -146,16 +147,16 @@ same_from_fields b c same = λ i. record {
 }
 
 -- a record spells no other body
-pub same_body : (b c : Body) → IsStoredBody b → IsStoredBody c → record_bytes b ≡ record_bytes c → b ≡ c
+pub same_body : (b c : Body) → IsStoredBody b → IsStoredBody c → body_bytes b ≡ body_bytes c → b ≡ c
 same_body b c stored_b stored_c same =
     same_from_fields b c (same_fields (fields_of b) (fields_of c) (stored_fit b stored_b) (stored_fit c stored_c)
-    (sym (record_bytes_is b) ∙ same ∙ record_bytes_is c))
+    (sym (body_bytes_is b) ∙ same ∙ body_bytes_is c))
 
-pub length-record_bytes : (b : Body) → length (record_bytes b) ≡ 64
-unfolding record_bytes
-length-record_bytes b = refl
+pub length-body_bytes : (b : Body) → length (body_bytes b) ≡ 64
+unfolding body_bytes
+length-body_bytes b = refl
 
 pub record_of_ok : (w : List ℕ) (f : Fields) (found : Result Body SnapError) → w ≡ fields_bytes f → IfOk found (λ b. fields_of b ≡ f)
-    → IfOk found (λ b. w ≡ record_bytes b)
-record_of_ok w f (Ok b) spelled is = spelled ∙ ap fields_bytes (sym is) ∙ sym (record_bytes_is b)
+    → IfOk found (λ b. w ≡ body_bytes b)
+record_of_ok w f (Ok b) spelled is = spelled ∙ ap fields_bytes (sym is) ∙ sym (body_bytes_is b)
 record_of_ok w f (Err e) spelled is = tt

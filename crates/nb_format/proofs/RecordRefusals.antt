@@ -15,10 +15,11 @@ use Rattle.nb_format.specs.declared.record.Fields.{Fields}
 use Rattle.nb_format.specs.declared.snap_error.SnapError.{SnapError}
 use Rattle.nb_format.specs.declared.snap_error.SnapError.TheVariants as snap
 use Rattle.nb_format.specs.Fields.{fields_of, fields_bytes}
-use Rattle.nb_format.specs.Snapshot.{record_bytes, IsStoredBody}
+use Rattle.nb_model.specs.Bytes.{body_bytes}
+use Rattle.nb_format.specs.Snapshot.{IsStoredBody}
 use Rattle.nb_format.specs.SnapshotRefusal.{u64_at, i64_at, fields_at, field_refusal, record_refusal, is_in_box, is_slow, is_above, AreBytes}
 use Rattle.nb_format.proofs.Places.{u32_at-spells, u64_at-spells, u32_at-fits, u64_at-fits, u32_at-back, u64_at-back}
-use Rattle.nb_format.proofs.RecordBytes.{Fit, HaveFields, have_fields, record_bytes_is, stored_fit, fields_decoded, cast_unsigned_fits}
+use Rattle.nb_format.proofs.RecordBytes.{Fit, HaveFields, have_fields, body_bytes_is, stored_fit, fields_decoded, cast_unsigned_fits}
 use Rattle.nb_format.proofs.HeaderRefusals.{if_none, if_by, none_by, IsOfBytes}
 
 -- ---- the tests
@@ -213,17 +214,17 @@ fields_behind i last w f fit spelled rises =
     cond-false _ _ _ (not_from_true _ above) ∙ ap (field_refusal i) same
 
 -- nothing of a body's record is refused behind a lower id
-pub record_none : (i : ℕ) (last : Option ℕ) (b : Body) → IsStoredBody b → IfSome last (λ l. l < b.id) → record_refusal i last (record_bytes b) ≡ None
+pub record_none : (i : ℕ) (last : Option ℕ) (b : Body) → IsStoredBody b → IfSome last (λ l. l < b.id) → record_refusal i last (body_bytes b) ≡ None
 record_none i last b stored rises =
-    fields_behind i last (record_bytes b) (fields_of b) (stored_fit b stored) (record_bytes_is b) rises ∙ field_none i b stored
+    fields_behind i last (body_bytes b) (fields_of b) (stored_fit b stored) (body_bytes_is b) rises ∙ field_none i b stored
 
 -- the id at the head of a body's record
-pub record_id : (b : Body) → IsStoredBody b → u64_at 0 (record_bytes b) ≡ b.id
-record_id b stored = ap (λ (g : Fields). g.id) (fields_at-spells (record_bytes b) (fields_of b) (stored_fit b stored) (record_bytes_is b))
+pub record_id : (b : Body) → IsStoredBody b → u64_at 0 (body_bytes b) ≡ b.id
+record_id b stored = ap (λ (g : Fields). g.id) (fields_at-spells (body_bytes b) (fields_of b) (stored_fit b stored) (body_bytes_is b))
 
 -- the body of a record of which nothing is refused
 pub record IsRecordBehind (last : Option ℕ) (w : List ℕ) (b : Body) : Type 0 where
-  pub spelled : w ≡ record_bytes b
+  pub spelled : w ≡ body_bytes b
   pub stored : IsStoredBody b
   pub rises : IfSome last (λ l. l < b.id)
 
@@ -237,7 +238,7 @@ record_accepted i last w all long none =
     let id : u64_at 0 w ≡ b.id = ap (λ (g : Fields). g.id) (sym found.1.fields) in (
       b,
       record {
-        spelled = fields_at-back w all long ∙ ap fields_bytes (sym found.1.fields) ∙ sym (record_bytes_is b);
+        spelled = fields_at-back w all long ∙ ap fields_bytes (sym found.1.fields) ∙ sym (body_bytes_is b);
         stored = found.1.stored;
         rises = subst (λ (n : ℕ). IfSome last (λ l. l < n)) id (is_above-true last (u64_at 0 w) (not-false _ behind.0));
       },

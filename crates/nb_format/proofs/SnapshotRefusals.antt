@@ -14,12 +14,13 @@ use Rattle.nb_model.specs.declared.body.Body.{Body}
 use Rattle.nb_model.specs.Limits.{most_bodies}
 use Rattle.nb_format.specs.declared.snap_error.SnapError.{SnapError}
 use Rattle.nb_format.specs.declared.snap_reader.SnapReader.{SnapReader}
-use Rattle.nb_format.specs.Snapshot.{header_bytes, record_bytes, snapshot_length, IsStoredBody, AreStoredBodies, IsSnapshot, IsNoSnapshot}
+use Rattle.nb_model.specs.Bytes.{body_bytes}
+use Rattle.nb_format.specs.Snapshot.{header_bytes, snapshot_length, IsStoredBody, AreStoredBodies, IsSnapshot, IsNoSnapshot}
 use Rattle.nb_format.specs.Reader.{count_of, time_of, read_count, last_id, last_of, HasRead}
 use Rattle.nb_format.specs.SnapshotRefusal.{u64_at, header_refusal, record_refusal, record_at, id_before, records_refusal, snapshot_refusal, AreBytes, IsBySnapshot}
 use Rattle.nb_format.proofs.HeaderRefusals.{option_or_none, option_or_some, option_or_second, header_none, file_count, header_accepted, header_by, none_by, option_or_by, HasForm, IsOfBytes}
 use Rattle.nb_format.proofs.Places.{part-take}
-use Rattle.nb_format.proofs.RecordBytes.{length-record_bytes}
+use Rattle.nb_format.proofs.RecordBytes.{length-body_bytes}
 use Rattle.nb_format.proofs.RecordRefusals.{record_none, record_id, record_accepted, record_by}
 use Rattle.nb_format.proofs.Snapshots.{length-records, snapshot_header, snapshot_records, snapshot_whole}
 use Rattle.nb_format.proofs.Reading.{ids, last_of-push, rises_behind, read_header, read_records, read_more}
@@ -29,7 +30,7 @@ use Rattle.nb_format.proofs.Reading.{ids, last_of-push, rises_behind, read_heade
 -- the records of these bodies stand in the file
 pub record HasRecords (bytes : List ℕ) (bodies : List Body) : Type 0 where
   pub stored : AreStoredBodies bodies
-  pub spelled : take (64 * length bodies) (drop 32 bytes) ≡ flat_map record_bytes bodies
+  pub spelled : take (64 * length bodies) (drop 32 bytes) ≡ flat_map body_bytes bodies
 
 -- the body that fills a list where there is none
 abbrev no_body : Body
@@ -44,18 +45,18 @@ parted bodies n inside = split_at bodies n no_body inside
 
 -- a record of the list stands at its place
 record_at-is : (bytes : List ℕ) (bodies : List Body) (n : ℕ) → HasRecords bytes bodies → n < length bodies
-    → record_at n bytes ≡ record_bytes (body_at bodies n)
+    → record_at n bytes ≡ body_bytes (body_at bodies n)
 record_at-is bytes bodies n has inside =
     let front = take n bodies in
     let b = body_at bodies n in
-    let rest = flat_map record_bytes (drop (suc n) bodies) in
-    let long : length (flat_map record_bytes front) ≡ 64 * n = omega (arith, length-records front, length-take n bodies) in
-    let records : take (64 * length bodies) (drop 32 bytes) ≡ flat_map record_bytes front ++ (record_bytes b ++ rest) =
-    has.spelled ∙ ap (flat_map record_bytes) (parted bodies n inside) ∙ flat_map-append record_bytes front (b ∷ drop (suc n) bodies) in
+    let rest = flat_map body_bytes (drop (suc n) bodies) in
+    let long : length (flat_map body_bytes front) ≡ 64 * n = omega (arith, length-records front, length-take n bodies) in
+    let records : take (64 * length bodies) (drop 32 bytes) ≡ flat_map body_bytes front ++ (body_bytes b ++ rest) =
+    has.spelled ∙ ap (flat_map body_bytes) (parted bodies n inside) ∙ flat_map-append body_bytes front (b ∷ drop (suc n) bodies) in
     ap (take 64) (sym (drop-drop (64 * n) 32 bytes)) ∙ sym (part-take (drop 32 bytes) (64 * n) 64 (64 * length bodies) (omega arith))
     ∙ ap (λ (w : List ℕ). take 64 (drop (64 * n) w)) records
-    ∙ ap (take 64) (drop_at (flat_map record_bytes front) (record_bytes b ++ rest) (64 * n) long)
-    ∙ take_at (record_bytes b) rest 64 (length-record_bytes b)
+    ∙ ap (take 64) (drop_at (flat_map body_bytes front) (body_bytes b ++ rest) (64 * n) long)
+    ∙ take_at (body_bytes b) rest 64 (length-body_bytes b)
 
 body_stored : (bodies : List Body) (n : ℕ) → AreStoredBodies bodies → n < length bodies → IsStoredBody (body_at bodies n)
 body_stored bodies n stored inside = stored.each n no_body inside
@@ -136,7 +137,7 @@ pub snapshot_none : (bytes : List ℕ) (bodies : List Body) (time : ℕ) → IsS
 unfolding snapshot_refusal
 snapshot_none bytes bodies time is =
     let header = snapshot_header is in
-    let all = flat_map record_bytes bodies in
+    let all = flat_map body_bytes bodies in
     let records : HasRecords bytes bodies = record {
       stored = is.stored;
       spelled = ap (take (64 * length bodies)) (snapshot_records is) ∙ take_all (64 * length bodies) all (omega (arith, length-records bodies));
@@ -179,8 +180,8 @@ list_read bytes (suc n) form within all none =
     let fewer : n ≤ u64_at 8 bytes = omega arith in
     let parts = option_or_none _ _ none in
     let before = list_read bytes n form fewer all parts.0 in
-    let record_bytes_all = All-take (λ (b : ℕ). b < 2 ^ 8) 64 _ (All-drop (λ (b : ℕ). b < 2 ^ 8) (snapshot_length n) bytes all) in
-    let found = record_accepted n (id_before n bytes) (record_at n bytes) record_bytes_all (record_long bytes n (omega (arith, form.whole))) parts.1 in
+    let body_bytes_all = All-take (λ (b : ℕ). b < 2 ^ 8) 64 _ (All-drop (λ (b : ℕ). b < 2 ^ 8) (snapshot_length n) bytes all) in
+    let found = record_accepted n (id_before n bytes) (record_at n bytes) body_bytes_all (record_long bytes n (omega (arith, form.whole))) parts.1 in
     let b = found.0 in
     let id : u64_at 0 (record_at n bytes) ≡ b.id = ap (u64_at 0) found.1.spelled ∙ record_id b found.1.stored in
     let old = reader_behind bytes n form fewer in
@@ -204,7 +205,7 @@ snapshot_accepted bytes all none =
       u64_at 16 bytes,
       record {
         spelled = sym (take_all (snapshot_length (length bodies)) bytes (omega (arith, has.whole, count))) ∙ has.begins
-            ∙ ap (λ (n : ℕ). header_bytes n (u64_at 16 bytes) ++ flat_map record_bytes bodies) count;
+            ∙ ap (λ (n : ℕ). header_bytes n (u64_at 16 bytes) ++ flat_map body_bytes bodies) count;
         stored = has.stored;
         fits = form.header.fits;
       },

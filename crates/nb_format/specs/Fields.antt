@@ -3,7 +3,7 @@ use Rattle.std.specs.Prelude.{ℕ, if◌then◌else◌, List, ◌++◌}
 use Rattle.std.specs.Int.{w32, w64, to_le_bytes}
 use Rattle.nb_model.specs.declared.body.Body.{Body}
 use Rattle.nb_format.specs.declared.record.Fields.{Fields}
-use Rattle.nb_format.specs.Snapshot.{vector_bytes}
+use Rattle.nb_model.specs.Bytes.{vector_bytes}
 
 abbrev pub fields_of : Body → Fields
 fields_of b = record { id = b.id; mass = b.mass; flag = (if b.out then 1 else 0); at = b.at; v = b.v }

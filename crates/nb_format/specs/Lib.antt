@@ -4,6 +4,7 @@ pub mod Fields
 pub mod SnapshotRefusal
 pub mod Reader
 pub mod Writer
+pub mod Images
 pub mod Digits
 pub mod ParamsText
 pub mod ParamsReading

@@ -1,13 +1,14 @@
 -- What a snapshot reader has read.
-use Rattle.std.specs.Prelude.{◌≡◌, ℕ, ◌+◌, ◌<◌, ◌≤◌, if◌then◌else◌, nat_lt, Option, Some, None, IfSome, List, [], ◌∷◌, ◌++◌, length, take}
+use Rattle.std.specs.Prelude.{◌≡◌, ℕ, ◌+◌, ◌<◌, ◌≤◌, if◌then◌else◌, nat_lt, Option, Some, None, Result, IfSome, IfOk, IfErr, OnOk, List, [], ◌∷◌, ◌++◌, length, take}
 use Rattle.std.specs.List.{flat_map}
 use Rattle.nb_model.specs.declared.body.Body.{Body}
 use Rattle.nb_model.specs.Limits.{most_bodies}
 use Rattle.nb_format.specs.declared.snap_error.SnapError.{SnapError}
 use Rattle.nb_format.specs.declared.snap_error.SnapError.TheVariants as snap
 use Rattle.nb_format.specs.declared.snap_reader.SnapReader.{SnapReader}
-use Rattle.nb_format.specs.Snapshot.{header_bytes, record_bytes, snapshot_length, IsStoredBody, AreStoredBodies}
-use Rattle.nb_format.specs.SnapshotRefusal.{record_refusal, record_at}
+use Rattle.nb_model.specs.Bytes.{body_bytes}
+use Rattle.nb_format.specs.Snapshot.{header_bytes, snapshot_length, IsStoredBody, AreStoredBodies}
+use Rattle.nb_format.specs.SnapshotRefusal.{record_refusal, record_at, IsBySnapshot}
 
 -- the number of the reader's file
 abbrev pub file_of : SnapReader → ℕ
@@ -62,7 +63,7 @@ pub record HasRead (reader : SnapReader) (bytes : List ℕ) (bodies : List Body)
   pub read : read_count reader ≡ length bodies
   pub last : last_id reader ≡ last_of bodies
   pub stored : AreStoredBodies bodies
-  pub begins : take (snapshot_length (length bodies)) bytes ≡ header_bytes (count_of reader) (time_of reader) ++ flat_map record_bytes bodies
+  pub begins : take (snapshot_length (length bodies)) bytes ≡ header_bytes (count_of reader) (time_of reader) ++ flat_map body_bytes bodies
 
 -- The reader's file reads as when it was opened, or has become shorter since.
 abbrev pub IsFrontOf : List ℕ → List ℕ → Type 0
@@ -74,3 +75,10 @@ abbrev pub next_refusal : SnapReader → List ℕ → Option SnapError
 next_refusal reader file =
     if nat_lt (length file) (snapshot_length (read_count reader + 1)) then Some snap.Length
     else record_refusal (read_count reader) (last_id reader) (record_at (read_count reader) file)
+
+-- What a reader's `next` tells of a file that holds these bytes: a body only where nothing is refused, a refusal by the
+-- snapshot only where it is that one, and neither a body nor the end where the file ends before the next record does.
+pub record TellsNext (reader : SnapReader) (file : List ℕ) (result : Result (Option Body) SnapError) : Type 0 where
+  pub accepted : IfOk result (λ found. IfSome found (λ _. next_refusal reader file ≡ None))
+  pub reason : IfErr result (λ e. IsBySnapshot e → next_refusal reader file ≡ Some e)
+  pub short : read_count reader < count_of reader → length file < snapshot_length (read_count reader + 1) → OnOk result ⊥

@@ -1,11 +1,12 @@
--- The snapshot form: a header of 32 bytes, and a record of 64 bytes for each body. Numbers are little-endian, and those
--- with a sign are two's complement.
-use Rattle.std.specs.Prelude.{◌≡◌, ◌≢◌, ℕ, ◌+◌, ◌*◌, ◌^◌, ◌<◌, ◌≤◌, if◌then◌else◌, List, ◌++◌, length, map, replicate, slice_index, codes, All, FitsSigned}
-use Rattle.std.specs.Int.{w32, w64, to_le_bytes, cast_unsigned}
+-- The snapshot form: a header of 32 bytes, and a record of 64 bytes for each body, which is the body's bytes. Numbers are
+-- little-endian.
+use Rattle.std.specs.Prelude.{◌≡◌, ◌≢◌, ℕ, ◌+◌, ◌*◌, ◌^◌, ◌<◌, ◌≤◌, List, ◌++◌, length, map, replicate, slice_index, codes, All, FitsSigned}
+use Rattle.std.specs.Int.{w64, to_le_bytes}
 use Rattle.std.specs.List.{flat_map}
 use Rattle.std.specs.List.Sorted.{IsStrictlyIncreasing}
 use Rattle.nb_model.specs.declared.body.V3.{V3}
 use Rattle.nb_model.specs.declared.body.Body.{Body}
+use Rattle.nb_model.specs.Bytes.{body_bytes}
 use Rattle.nb_model.specs.Limits.{most_bodies}
 use Rattle.nb_model.specs.Valid.{IsValidBody}
 
@@ -29,19 +30,9 @@ pub record IsHeader (bytes : List ℕ) (count time : ℕ) : Type 0 where
   pub few : count ≤ most_bodies
   pub fits : time < 2 ^ 64
 
-abbrev pub vector_bytes : V3 → List ℕ
-vector_bytes v = to_le_bytes w64 (cast_unsigned w64 v.x) ++ to_le_bytes w64 (cast_unsigned w64 v.y) ++ to_le_bytes w64 (cast_unsigned w64 v.z)
-
--- A record: the id, the mass, 1 for a body that has left the box and 0 for any other, the position, the velocity.
-unfoldable pub record_bytes : Body → List ℕ
-record_bytes b =
-    to_le_bytes w64 b.id ++ to_le_bytes w32 b.mass ++ to_le_bytes w32 (if b.out then 1 else 0)
-    ++ to_le_bytes w64 b.at.x ++ to_le_bytes w64 b.at.y ++ to_le_bytes w64 b.at.z
-    ++ vector_bytes b.v
-
 -- the one spelling of a list of bodies at a time
 abbrev pub snapshot_bytes : List Body → ℕ → List ℕ
-snapshot_bytes bodies time = header_bytes (length bodies) time ++ flat_map record_bytes bodies
+snapshot_bytes bodies time = header_bytes (length bodies) time ++ flat_map body_bytes bodies
 
 -- a velocity that fits its record: any, for a body that has left the box
 pub record FitsRecord (v : V3) : Type 0 where

@@ -1,11 +1,12 @@
 -- What a snapshot writer has filled.
-use Rattle.std.specs.Prelude.{◌≡◌, ◌≢◌, ℕ, ◌+◌, ◌≤◌, ◌⊎◌, Option, Some, None, List, [], ◌∷◌, ◌++◌, length, drop, slice_index}
+use Rattle.std.specs.Prelude.{◌≡◌, ℕ, ◌+◌, ◌≤◌, ◌⊎◌, Option, Some, None, List, [], ◌∷◌, ◌++◌, length, drop, slice_index}
 use Rattle.std.specs.List.{flat_map}
 use Rattle.nb_model.specs.declared.body.Body.{Body}
 use Rattle.nb_format.specs.declared.snap_writer.Fresh.{Fresh}
 use Rattle.nb_format.specs.declared.snap_writer.Filling.{Filling}
 use Rattle.nb_format.specs.declared.snap_writer.Closed.{Closed}
-use Rattle.nb_format.specs.Snapshot.{gate, header_bytes, record_bytes, AreStoredBodies, IsSnapshot, IsUnfinished}
+use Rattle.nb_model.specs.Bytes.{body_bytes}
+use Rattle.nb_format.specs.Snapshot.{header_bytes, AreStoredBodies, IsSnapshot, IsUnfinished}
 use Rattle.nb_format.specs.Reader.{last_of}
 
 -- the number of the file, the count of bodies and the time of a snapshot that is to be written
@@ -46,7 +47,7 @@ pub record HasOneMore (body : Body) (old new : Filling) : Type 0 where
 
 -- the bytes of a snapshot with a shut gate, for a count of bodies of which these were added
 abbrev pub shut_bytes : Plan → List Body → List ℕ
-shut_bytes plan bodies = 0 ∷ drop 1 (header_bytes plan.count plan.time) ++ flat_map record_bytes bodies
+shut_bytes plan bodies = 0 ∷ drop 1 (header_bytes plan.count plan.time) ++ flat_map body_bytes bodies
 
 -- The file holds the bodies that were added, behind a shut gate.
 pub record HasFilled (filling : Filling) (bytes : List ℕ) (bodies : List Body) : Type 0 where
@@ -67,14 +68,21 @@ IsShut old new = new ≡ 0 ∷ []
 abbrev pub IsBegun : Plan → List ℕ → List ℕ → Type 0
 IsBegun plan old new = new ≡ shut_bytes plan []
 
--- A file with a shut gate byte keeps it.
+-- The gate byte is there, and is 0.
+pub record HasShutGate (bytes : List ℕ) : Type 0 where
+  pub there : 1 ≤ length bytes
+  pub shut : slice_index bytes 0 ≡ 0
+
+-- A file with a shut gate keeps it.
 abbrev pub StaysShut : List ℕ → List ℕ → Type 0
-StaysShut old new = 1 ≤ length old → slice_index old 0 ≢ gate → (1 ≤ length new) × (slice_index new 0 ≢ gate)
+StaysShut old new = HasShutGate old → HasShutGate new
 
 -- The file becomes the snapshot of these bodies.
 abbrev pub IsFinishedAs : List Body → ℕ → List ℕ → List ℕ → Type 0
 IsFinishedAs bodies time old new = IsSnapshot new bodies time
 
--- The file becomes the snapshot of these bodies, or is unfinished.
-abbrev pub IsFinishedOrNot : List Body → ℕ → List ℕ → List ℕ → Type 0
-IsFinishedOrNot bodies time old new = IsSnapshot new bodies time ⊎ IsUnfinished new
+-- A file with a shut gate becomes the snapshot of the bodies that were added, or is unfinished still. `read` is what it held
+-- when `close` began.
+abbrev pub Closes : Filling → List ℕ → List ℕ → List ℕ → Type 0
+Closes filling read old new = (bodies : List Body) → HasFilled filling read bodies → HasShutGate old
+    → IsSnapshot new bodies (plan_of filling).time ⊎ IsUnfinished new

@@ -26,6 +26,7 @@ mod snap_error;
 mod snap_reader;
 mod snap_writer;
 mod text;
+mod writer_laws;
 
 pub use digits::number_of;
 pub use finished::snap_finished;
@@ -46,6 +47,7 @@ pub use snap_error::SnapError;
 pub use snap_reader::SnapReader;
 pub use snap_writer::{Closed, Filling, Fresh};
 pub use text::{LONGEST_TEXT, Text};
+pub use writer_laws::{law_being_written, law_filling_kept, law_written};
 
 #[cfg(test)]
 mod params_tests;

@@ -2,12 +2,13 @@
 
 ghost use Rattle.std.specs.Prelude.{◌≡◌, ◌≤◌, ◌↔◌, false, IsTrue, IfOk, IfErr, Some};
 ghost use Rattle.nb_model.specs.Limits.{speed_limit};
-ghost use Rattle.nb_model.specs.Valid.{IsInBox, IsBelow, IsValidBody};
-ghost use Rattle.nb_format.specs.Snapshot.{record_bytes, IsStoredBody};
+ghost use Rattle.nb_model.specs.Valid.{IsBelow, IsValidBody};
+ghost use Rattle.nb_model.specs.Bytes.{body_bytes};
+ghost use Rattle.nb_format.specs.Snapshot.{IsStoredBody};
 
 use crate::SnapError;
 use crate::bytes::{put, u32_at, u64_at};
-use nb_model::{At, BOX_SIDE, Body, SPEED_LIMIT, V3};
+use nb_model::{At, Body, SPEED_LIMIT, V3};
 
 /// The length of a record, in bytes.
 pub(crate) const RECORD_LENGTH: usize = 64;
@@ -129,7 +130,7 @@ impl Fields {
         if !is_flag(self.flag) {
             return Err(SnapError::Flag(index));
         }
-        if !is_in_box(&self.at) {
+        if !self.at.is_in_box() {
             return Err(SnapError::Place(index));
         }
         let out = self.flag == OUT;
@@ -148,7 +149,7 @@ impl Fields {
 
 /// The record of a body.
 pub(crate) fn encode(body: &Body) -> [u8; RECORD_LENGTH]
-    ensures bytes { result ≡ record_bytes body.now }
+    ensures bytes { result ≡ body_bytes body.now }
     ensures stored { IsValidBody body.now → IsStoredBody body.now }
 {
     Fields::of(body).encode()
@@ -161,18 +162,9 @@ fn is_flag(flag: u32) -> bool
     flag == IN_BOX || flag == OUT
 }
 
-/// Whether each coordinate is below the side of the box.
-fn is_in_box(at: &At) -> bool
-    ensures { IsTrue result ↔ IsInBox at.now }
-{
-    at.x < BOX_SIDE && at.y < BOX_SIDE && at.z < BOX_SIDE
-}
-
 /// Whether a body may have this velocity: any, where it has left the box.
 fn may_move(out: bool, v: &V3) -> bool
     ensures { IsTrue result ↔ (out ≡ false → IsBelow speed_limit v.now) }
 {
-    out || v.x.unsigned_abs() < SPEED_LIMIT
-        && v.y.unsigned_abs() < SPEED_LIMIT
-        && v.z.unsigned_abs() < SPEED_LIMIT
+    out || v.is_below(SPEED_LIMIT)
 }

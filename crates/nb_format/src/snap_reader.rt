@@ -33,9 +33,10 @@ pub struct SnapReader {
 
 impl SnapReader {
     ghost use Rattle.nb_model.specs.declared.body.Body.{Body};
-    ghost use Rattle.nb_format.specs.Snapshot.{record_bytes, snapshot_length, IsSnapshot};
+    ghost use Rattle.nb_model.specs.Bytes.{body_bytes};
+    ghost use Rattle.nb_format.specs.Snapshot.{snapshot_length, IsSnapshot};
     ghost use Rattle.nb_format.specs.SnapshotRefusal.{header_refusal, record_refusal, snapshot_refusal, IsOfHeader, IsOfRecord};
-    ghost use Rattle.nb_format.specs.Reader.{file_of, count_of, time_of, read_count, last_id, IsAtStart, MayFollow, IsBehind, HasRead, IsFrontOf, next_refusal};
+    ghost use Rattle.nb_format.specs.Reader.{file_of, count_of, time_of, read_count, last_id, IsAtStart, MayFollow, IsBehind, HasRead, IsFrontOf, TellsNext};
 
     /// Reads the header of the file, or tells the first of its fields that is bad. It only reads.
     pub fn begin<H: Host>(host: &mut H, file: u64) -> Result<SnapReader, SnapError>
@@ -98,14 +99,8 @@ impl SnapReader {
         ensures code { IfErr result (λ e. IsBySnapshot e → IsOfRecord (read_count self.old) e) }
 
         // What the file holds now, where the host tells.
-        ensures accepted { IfOk result (λ found. IfSome found (λ _. IsTrue H.meaning.tells
-            → next_refusal self.old ((H.meaning.contents host.old).file (file_of self.old)) ≡ None)) }
-        ensures reason { IfErr result (λ e. IsTrue H.meaning.tells → IsBySnapshot e
-            → next_refusal self.old ((H.meaning.contents host.old).file (file_of self.old)) ≡ Some e) }
-        ensures short { IsTrue H.meaning.tells → read_count self.old < count_of self.old
-            → length ((H.meaning.contents host.old).file (file_of self.old))
-            < snapshot_length (read_count self.old + 1)
-            → OnOk result ⊥ }
+        ensures now { IsTrue H.meaning.tells
+            → TellsNext self.old ((H.meaning.contents host.old).file (file_of self.old)) result }
 
         // What the file holds, where the host tells: `bytes` is what it held when `begin` read its header.
         ensures body { (bytes : List ℕ) (bodies : List Body) → IsTrue H.meaning.tells
@@ -137,7 +132,7 @@ impl SnapReader {
 
     /// The body of a record, where it may follow those that were read, or the record's first bad field.
     fn follow(&self, bytes: &[u8; RECORD_LENGTH]) -> Result<Body, SnapError>
-        ensures spelled { IfOk result (λ body. bytes.now ≡ record_bytes body) }
+        ensures spelled { IfOk result (λ body. bytes.now ≡ body_bytes body) }
         ensures follows { IfOk result (MayFollow self.now) }
         ensures accepted { OnOk result (record_refusal (read_count self.now) (last_id self.now) bytes.now
             ≡ None) }

@@ -9,8 +9,8 @@ ghost use Rattle.std.specs.Prelude.{◌≡◌, ℕ, ◌+◌, ◌<◌, ◌≤◌,
 ghost use Rattle.std.specs.Option.{ForSome};
 ghost use Rattle.nb_model.specs.Limits.{most_bodies};
 ghost use Rattle.nb_host.specs.declared.host.TheConstants.{LAST_FILE};
-ghost use Rattle.nb_host.specs.Image.{FileBecomes};
-ghost use Rattle.nb_host.specs.Meaning.{Over, Counts};
+ghost use Rattle.nb_host.specs.Image.{FileBecomes, IsCut, IsOverwritten, IsPartlyCut, IsTorn};
+ghost use Rattle.nb_host.specs.Meaning.{IsDurable, Over, Ran, RanSyncing};
 
 use crate::header::{self, GATE};
 use crate::length::snapshot_length;
@@ -60,6 +60,7 @@ pub struct Closed {
 
 impl Fresh {
     ghost use Rattle.nb_format.specs.Writer.{fresh_plan, IsEmptyFilling, StaysUnfinished, IsShut, IsBegun};
+    ghost use Rattle.nb_format.specs.Images.{IsShutNow};
 
     /// The snapshot of `count` bodies at a time in ticks, which is to be written into the file.
     pub fn new(file: u64, count: u64, time: u64) -> Fresh
@@ -70,15 +71,15 @@ impl Fresh {
         Fresh { file, count, time }
     }
 
-    /// Shuts the gate and writes the header. A refusal hands nothing back, and an unfinished file stays
-    /// unfinished.
+    /// Shuts the gate and writes the header. A refusal hands nothing back. An unfinished file stays
+    /// unfinished, in every image since too.
     pub fn begin<H: Host>(self, host: &mut H) -> Result<Filling, HostError>
         ensures empty { IfOk result (IsEmptyFilling (fresh_plan self)) }
         ensures begun { OnOk result (Over H.meaning
             (FileBecomes (fresh_plan self).file (IsBegun (fresh_plan self))) host.old host.new) }
-        ensures unfinished { Over H.meaning (FileBecomes (fresh_plan self).file StaysUnfinished)
-            host.old host.new }
-        ensures counts { Counts H.meaning HostError.Fault host.old host.new result }
+        ensures shut { OnOk result (IsShutNow H.meaning (fresh_plan self).file host.new) }
+        ensures ran { RanSyncing H.meaning 2 HostError.Fault
+            (FileBecomes (fresh_plan self).file StaysUnfinished) host.old host.new result }
     {
         self.shut(host)?;
         let Fresh { file, count, time } = self;
@@ -97,23 +98,22 @@ impl Fresh {
     fn shut<H: Host>(&self, host: &mut H) -> Result<(), HostError>
         ensures shut { OnOk result
             (Over H.meaning (FileBecomes (fresh_plan self.now).file IsShut) host.old host.new) }
-        ensures unfinished { Over H.meaning (FileBecomes (fresh_plan self.now).file StaysUnfinished)
-            host.old host.new }
-        ensures counts { Counts H.meaning HostError.Fault host.old host.new result }
+        ensures durable { OnOk result (IsDurable H.meaning host.new) }
+        ensures ran { RanSyncing H.meaning 2 HostError.Fault
+            (FileBecomes (fresh_plan self.now).file StaysUnfinished) host.old host.new result }
     {
-        host.cut(self.file, BEHIND_GATE)?;
-        host.sync()?;
-        host.write_at(self.file, GATE_PLACE, &[SHUT])?;
-        host.sync()
+        shorten(host, self.file)?;
+        set_gate(host, self.file, SHUT)
     }
 }
 
 impl Filling {
     ghost use Rattle.nb_model.specs.declared.body.Body.{Body};
     ghost use Rattle.nb_model.specs.Valid.{IsValidBody};
-    ghost use Rattle.nb_format.specs.Writer.{plan_of, added_count, last_added, HasOneMore, HasFilled, StaysShut, IsFinishedAs, IsFinishedOrNot, closed_file};
+    ghost use Rattle.nb_format.specs.Writer.{plan_of, added_count, last_added, HasOneMore, HasFilled, StaysShut, IsFinishedAs, Closes, closed_file};
 
-    /// Adds a body at the end. A refusal hands nothing back, and the gate stays shut.
+    /// Adds a body at the end. A refusal hands nothing back, and the gate stays shut, in every image since
+    /// too.
     pub fn add<H: Host>(self, host: &mut H, body: &Body) -> Result<Filling, HostError>
         requires room { added_count self < (plan_of self).count }
         requires valid { IsValidBody body.now }
@@ -123,8 +123,8 @@ impl Filling {
             → HasFilled self ((H.meaning.contents host.old).file (plan_of self).file) bodies
             → IfOk result (λ filling. HasFilled filling ((H.meaning.contents host.new).file (plan_of self).file)
             (bodies ++ body.now ∷ [])) }
-        ensures shut { Over H.meaning (FileBecomes (plan_of self).file StaysShut) host.old host.new }
-        ensures counts { Counts H.meaning HostError.Fault host.old host.new result }
+        ensures ran { Ran H.meaning HostError.Fault (FileBecomes (plan_of self).file StaysShut)
+            host.old host.new result }
     {
         let Filling {
             file,
@@ -144,7 +144,7 @@ impl Filling {
     }
 
     /// Makes all that was written durable, and then opens the gate. A refusal hands nothing back: the file is
-    /// unfinished then, or finished with the right bytes.
+    /// unfinished then, or finished with the right bytes, and so it is in every image since.
     pub fn close<H: Host>(self, host: &mut H) -> Result<Closed, HostError>
         requires { added_count self ≡ (plan_of self).count }
         ensures closed { IfOk result (λ closed. closed_file closed ≡ (plan_of self).file) }
@@ -152,16 +152,14 @@ impl Filling {
             → HasFilled self ((H.meaning.contents host.old).file (plan_of self).file) bodies
             → OnOk result (FileBecomes (plan_of self).file (IsFinishedAs bodies (plan_of self).time)
             (H.meaning.contents host.old) (H.meaning.contents host.new)) }
-        ensures either { (bodies : List Body) → IsTrue H.meaning.tells
-            → HasFilled self ((H.meaning.contents host.old).file (plan_of self).file) bodies
-            → FileBecomes (plan_of self).file (IsFinishedOrNot bodies (plan_of self).time)
-            (H.meaning.contents host.old) (H.meaning.contents host.new) }
-        ensures counts { Counts H.meaning HostError.Fault host.old host.new result }
+        ensures durable { OnOk result (IsDurable H.meaning host.new) }
+        ensures ran { RanSyncing H.meaning 2 HostError.Fault (FileBecomes (plan_of self).file
+            (Closes self ((H.meaning.contents host.old).file (plan_of self).file)))
+            host.old host.new result }
     {
         let Filling { file, .. } = self;
         host.sync()?;
-        host.write_at(file, GATE_PLACE, &[GATE])?;
-        host.sync()?;
+        set_gate(host, file, GATE)?;
         Ok(Closed { file })
     }
 }
@@ -175,4 +173,29 @@ impl Closed {
     {
         self.file
     }
+}
+
+/// Cuts the file off behind its gate, and makes that durable.
+fn shorten<H: Host>(host: &mut H, file: u64) -> Result<(), HostError>
+    requires { file ≤ LAST_FILE }
+    ensures short { OnOk result (Over H.meaning (FileBecomes file (IsCut 1)) host.old host.new) }
+    ensures durable { OnOk result (IsDurable H.meaning host.new) }
+    ensures ran { RanSyncing H.meaning 1 HostError.Fault (FileBecomes file (IsPartlyCut 1))
+        host.old host.new result }
+{
+    host.cut(file, BEHIND_GATE)?;
+    host.sync()
+}
+
+/// Writes the gate, and makes it durable.
+fn set_gate<H: Host>(host: &mut H, file: u64, gate: u8) -> Result<(), HostError>
+    requires { file ≤ LAST_FILE }
+    ensures set { OnOk result (Over H.meaning (FileBecomes file (IsOverwritten 0 (gate ∷ [])))
+        host.old host.new) }
+    ensures durable { OnOk result (IsDurable H.meaning host.new) }
+    ensures ran { RanSyncing H.meaning 1 HostError.Fault (FileBecomes file (IsTorn 0 1))
+        host.old host.new result }
+{
+    host.write_at(file, GATE_PLACE, &[gate])?;
+    host.sync()
 }

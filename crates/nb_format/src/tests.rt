@@ -298,24 +298,49 @@ fn a_fault_leaves_the_file_unfinished(rt: HostRuntime) -> Result<(), Fail> {
     Ok(())
 }
 
-/// A crash while a body is being written leaves an unfinished file, whatever it leaves: half of the body's bytes,
-/// what the last sync made durable, or all of the bytes as the gate's.
+const OUTCOMES: [Outcome; 4] = [
+    Outcome::Kept,
+    Outcome::Lost,
+    Outcome::Filled(b'F'),
+    Outcome::Filled(0),
+];
+
+/// Whether the file is finished where so many host calls pass, the next fails, and a crash has one of
+/// `OUTCOMES`: calls 1 to 5 are those of `begin`, 6 and 7 add the bodies, and 8 to 10 are those of `close`.
+const FINISHED: [[bool; 4]; 11] = [
+    [false, false, false, false],
+    [false, false, false, false],
+    [false, false, false, false],
+    [false, false, false, false],
+    [false, false, false, false],
+    [false, false, false, false],
+    [false, false, false, false],
+    [false, false, false, false],
+    [false, false, true, false],
+    [true, false, true, false],
+    [true, true, true, true],
+];
+
+/// Whether the file is finished after a crash with this outcome, and whether it is the snapshot, where so many
+/// host calls passed. The file is an unfinished one of the same length before.
+fn left_after(alloc: Global, calls: u64, outcome: Outcome) -> Result<(bool, bool), Fail> {
+    let mut host = MemoryHost::new(alloc);
+    host.with_file(FILE, &[1; 160])?;
+    host.fuse(calls);
+    let _ = write_two(&mut host);
+    host.crash(outcome)?;
+    let finished = snap_finished(&mut host, FILE, 2)?;
+    Ok((finished, host.bytes(FILE) == TWO.as_slice()))
+}
+
 #[test]
-fn a_crash_leaves_the_file_unfinished(rt: HostRuntime) -> Result<(), Fail> {
-    let table = [
-        (Outcome::Kept, 64),
-        (Outcome::Lost, 1),
-        (Outcome::Filled(0x46), 96),
-    ];
-    for (outcome, length) in table {
-        let mut host = MemoryHost::new(rt.alloc());
-        host.fuse(5);
-        let filling = Fresh::new(FILE, 1, 0).begin(&mut host)?;
-        assert!(rt; filling.add(&mut host, &FIRST).is_err());
-        host.crash(outcome)?;
-        assert_eq!(rt; host.bytes(FILE).len(), length);
-        assert_eq!(rt; host.bytes(FILE).first(), Some(&0));
-        assert!(rt; !snap_finished(&mut host, FILE, 1)?);
+fn crashes_leave_no_part_of_a_snapshot(rt: HostRuntime) -> Result<(), Fail> {
+    for calls in 0..11usize {
+        for which in 0..4usize {
+            let want = FINISHED[calls][which];
+            let after = left_after(rt.alloc(), calls as u64, OUTCOMES[which])?;
+            assert_eq!(rt; after, (want, want), "{which} after {calls}");
+        }
     }
     Ok(())
 }

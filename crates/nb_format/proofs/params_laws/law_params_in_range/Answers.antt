@@ -1,4 +1,4 @@
-use Rattle.std.proofs.Common.{Result, ◌≡◌, subst, Ok}
+use Rattle.std.proofs.Common.{Result, subst}
 use Rattle.std.specs.Prelude.{IfOk}
 use Rattle.nb_model.specs.declared.params.Params.{Params}
 use Rattle.nb_model.specs.Valid.{AreInRange}

@@ -1,10 +1,10 @@
 use Rattle.std.proofs.Common.{sym, ap, subst, ◌∙◌, arith, rules}
 use Rattle.nb_format.specs.Fields.{fields_bytes}
-use Rattle.nb_format.proofs.RecordBytes.{Fit, record_bytes_is, stored_from_fit}
+use Rattle.nb_format.proofs.RecordBytes.{Fit, body_bytes_is, stored_from_fit}
 use Rattle.nb_format.proofs.record.encode.Goals as goal
 
 pub returns-clause-bytes : goal.returns-clause-bytes
-returns-clause-bytes c = c.encode.ensures ∙ ap fields_bytes c.of.ensures ∙ sym (record_bytes_is c.args.body.now)
+returns-clause-bytes c = c.encode.ensures ∙ ap fields_bytes c.of.ensures ∙ sym (body_bytes_is c.args.body.now)
 
 pub returns-clause-stored : goal.returns-clause-stored
 returns-clause-stored c = λ valid.

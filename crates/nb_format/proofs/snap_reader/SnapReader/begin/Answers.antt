@@ -1,5 +1,4 @@
 use Rattle.std.proofs.Common.{ℕ, List, take, sym, ap, subst, ◌∙◌, arith}
-use Rattle.std.specs.Prelude.{IsTrue}
 use Rattle.std.proofs.lemmas.Result.{err_from_is_err_and, IfErr-weaker}
 use Rattle.nb_host.specs.Image.{Image}
 use Rattle.nb_host.proofs.Callers.{stays_contents}

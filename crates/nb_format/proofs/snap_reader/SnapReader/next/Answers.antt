@@ -7,15 +7,19 @@ use Rattle.nb_format.proofs.Reading.{whole_inside, front_reads, read_more, next_
 use Rattle.nb_format.proofs.SnapshotRefusals.{record_refused}
 use Rattle.nb_format.proofs.snap_reader.SnapReader.next.Goals as goal
 
-pub returns-in_err-body-clause-reason : goal.returns-in_err-body-clause-reason
-returns-in_err-body-clause-reason g c =
+pub returns-in_err-body-clause-now : goal.returns-in_err-body-clause-now
+returns-in_err-body-clause-now g c =
     let p = err_from_is_err_and c.from_residual-in_err-body.result c.from_residual-in_err-body.ensures.1 in
     rw (p.1, p.2)
-    (λ tells _.
+    (λ tells.
     let reader = c.args.self.now in
     let file = (g.H.Host.meaning.contents c.args.host.now).file reader.file in
     let read = c.in_ok-read_whole.ensures.read tells ∙ ap (λ (at : ℕ). take 64 (drop at file)) c.snapshot_length.ensures in
-    next_is_record reader file c.read_whole.new.into read c.read_whole.auto.into ∙ c.in_err-body.ensures.refusal)
+    record {
+      accepted = tt;
+      reason = λ _. next_is_record reader file c.read_whole.new.into read c.read_whole.auto.into ∙ c.in_err-body.ensures.refusal;
+      short = λ _ _. tt;
+    })
 
 pub returns-in_err-body-clause-first : goal.returns-in_err-body-clause-first
 returns-in_err-body-clause-first g c = λ bytes bodies tells has still.
@@ -42,13 +46,6 @@ returns-in_err-body-clause-shorter g c = λ bytes bodies tells has front.
     let held = front_reads bytes file c.read_whole.new.into (snapshot_length reader.read) front read c.read_whole.auto.into in
     inl (record_refused reader bytes bodies _ has reader.few more (ap (record_refusal reader.read reader.last) (sym held) ∙ c.in_err-body.ensures.refusal)))
 
-pub returns-clause-accepted : goal.returns-clause-accepted
-returns-clause-accepted g c = λ tells.
-    let reader = c.args.self.now in
-    let file = (g.H.Host.meaning.contents c.args.host.now).file reader.file in
-    let read = c.in_ok-read_whole.ensures.read tells ∙ ap (λ (at : ℕ). take 64 (drop at file)) c.snapshot_length.ensures in
-    next_is_record reader file c.read_whole.new.into read c.read_whole.auto.into ∙ c.in_ok-body.ensures.accepted
-
 pub returns-clause-body : goal.returns-clause-body
 returns-clause-body g c = λ bytes bodies tells has front.
     let reader = c.args.self.now in
@@ -60,10 +57,14 @@ returns-clause-body g c = λ bytes bodies tells has front.
     read_more reader _ bytes bodies c.in_ok-body.body has c.in_ok-body.ensures.follows
     (record { file = refl; count = refl; time = refl; read = refl; last = refl }) reader.few more (sym held ∙ c.in_ok-body.ensures.spelled)
 
-pub returns-clause-short : goal.returns-clause-short
-returns-clause-short g c = λ tells more short.
+pub returns-clause-now : goal.returns-clause-now
+returns-clause-now g c = λ tells.
     let reader = c.args.self.now in
     let file = (g.H.Host.meaning.contents c.args.host.now).file reader.file in
     let read = c.in_ok-read_whole.ensures.read tells ∙ ap (λ (at : ℕ). take 64 (drop at file)) c.snapshot_length.ensures in
     let inside = whole_inside file c.read_whole.new.into (snapshot_length reader.read) read c.read_whole.auto.into in
-    omega arith
+    record {
+      accepted = next_is_record reader file c.read_whole.new.into read c.read_whole.auto.into ∙ c.in_ok-body.ensures.accepted;
+      reason = tt;
+      short = λ more short. omega arith;
+    }

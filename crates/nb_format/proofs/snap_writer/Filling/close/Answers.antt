@@ -1,30 +1,45 @@
-use Rattle.std.proofs.Common.{[], ◌∷◌, sym, subst, arith}
-use Rattle.std.specs.Prelude.{IsTrue}
-use Rattle.nb_host.specs.Image.{Image, IsTorn, IsOverwritten, FileBecomes}
+use Rattle.std.proofs.Common.{[], ◌∷◌, subst, arith, rules}
+use Rattle.nb_host.specs.Image.{Image, IsOverwritten, FileBecomes}
 use Rattle.nb_host.proofs.Callers.{stays_contents}
 use Rattle.nb_format.specs.Snapshot.{gate}
-use Rattle.nb_format.proofs.Writing.{gate_written, gate_torn}
+use Rattle.nb_format.proofs.Writing.{gate_written}
+use Rattle.nb_format.proofs.Closing.{stays_closes, closes_leads}
 use Rattle.nb_format.proofs.snap_writer.Filling.close.Goals as goal
 
-pub returns-in_err-write_at-clause-either : goal.returns-in_err-write_at-clause-either
-returns-in_err-write_at-clause-either g c = λ bodies tells filled.
-    let torn = subst (λ (image : Image). FileBecomes c.args.self.file (IsTorn 0 1) image (g.H.Host.meaning.contents c.write_at.new.self)) (stays_contents c.in_ok-sync.ensures.ran.leads) (c.write_at.ensures.ran.leads.contents tells) in
-    gate_torn c.args.self _ _ bodies filled c.requires (omega arith) torn
+pub returns-in_err-sync-clause-ran : goal.returns-in_err-sync-clause-ran
+returns-in_err-sync-clause-ran g c = record {
+  leads = stays_closes c.in_err-sync.ensures.ran.leads;
+  count = search rules;
+  rose = search rules;
+  spared = search rules;
+  refused = search rules;
+  synced = search rules;
+  at_most = search rules;
+}
 
-pub returns-in_err-sync-2-clause-either : goal.returns-in_err-sync-2-clause-either
-returns-in_err-sync-2-clause-either g c = λ bodies tells filled.
-    let torn = subst (λ (image : Image). FileBecomes c.args.self.file (IsTorn 0 1) image (g.H.Host.meaning.contents c.write_at.new.self)) (stays_contents c.in_ok-sync.ensures.ran.leads) (c.write_at.ensures.ran.leads.contents tells) in
-    gate_torn c.args.self _ _ bodies filled c.requires (omega arith)
-    (subst (λ (image : Image). FileBecomes c.args.self.file (IsTorn 0 1) (g.H.Host.meaning.contents c.args.host.now) image) (sym (stays_contents c.in_err-sync-2.ensures.ran.leads)) torn)
+pub returns-in_err-set_gate-clause-ran : goal.returns-in_err-set_gate-clause-ran
+returns-in_err-set_gate-clause-ran g c = record {
+  leads = closes_leads c.requires (omega arith) c.in_ok-sync.ensures.ran.leads c.in_ok-sync.ensures.durable c.in_err-set_gate.ensures.ran.leads;
+  count = search rules;
+  rose = search rules;
+  spared = search rules;
+  refused = search rules;
+  synced = search rules;
+  at_most = search rules;
+}
+
+pub returns-clause-ran : goal.returns-clause-ran
+returns-clause-ran g c = record {
+  leads = closes_leads c.requires (omega arith) c.in_ok-sync.ensures.ran.leads c.in_ok-sync.ensures.durable c.in_ok-set_gate.ensures.ran.leads;
+  count = search rules;
+  rose = search rules;
+  spared = search rules;
+  refused = search rules;
+  synced = search rules;
+  at_most = search rules;
+}
 
 pub returns-clause-finished : goal.returns-clause-finished
 returns-clause-finished g c = λ bodies tells filled.
-    let written = subst (λ (image : Image). FileBecomes c.args.self.file (IsOverwritten 0 (gate ∷ [])) image (g.H.Host.meaning.contents c.write_at.new.self)) (stays_contents c.in_ok-sync.ensures.ran.leads) (c.in_ok-write_at.ensures.written tells) in
-    gate_written c.args.self _ _ bodies filled c.requires (omega arith)
-    (subst (λ (image : Image). FileBecomes c.args.self.file (IsOverwritten 0 (gate ∷ [])) (g.H.Host.meaning.contents c.args.host.now) image) (sym (stays_contents c.in_ok-sync-2.ensures.ran.leads)) written)
-
-pub returns-clause-either : goal.returns-clause-either
-returns-clause-either g c = λ bodies tells filled.
-    let torn = subst (λ (image : Image). FileBecomes c.args.self.file (IsTorn 0 1) image (g.H.Host.meaning.contents c.write_at.new.self)) (stays_contents c.in_ok-sync.ensures.ran.leads) (c.write_at.ensures.ran.leads.contents tells) in
-    gate_torn c.args.self _ _ bodies filled c.requires (omega arith)
-    (subst (λ (image : Image). FileBecomes c.args.self.file (IsTorn 0 1) (g.H.Host.meaning.contents c.args.host.now) image) (sym (stays_contents c.in_ok-sync-2.ensures.ran.leads)) torn)
+    let written = subst (λ (image : Image). FileBecomes c.args.self.file (IsOverwritten 0 (gate ∷ [])) image (g.H.Host.meaning.contents c.set_gate.new.host)) (stays_contents c.in_ok-sync.ensures.ran.leads) (c.in_ok-set_gate.ensures.set tells) in
+    gate_written c.args.self _ _ bodies filled c.requires (omega arith) written

@@ -1,0 +1,74 @@
+//! Laws of a snapshot that is being written, over every host: how the calls of its writer go together. Each
+//! is a function that does nothing: its contract is the law.
+
+ghost use Rattle.std.specs.Prelude.{◌⊎◌, ℕ, List, [], ◌++◌, Contains, IsTrue};
+ghost use Rattle.nb_host.specs.Crashes.{AgreesOutside, EverySince, Stays};
+ghost use Rattle.nb_host.specs.Image.{FileBecomes};
+ghost use Rattle.nb_host.specs.Meaning.{IsDurableFile, Leads, Over};
+ghost use Rattle.nb_model.specs.declared.body.Body.{Body};
+ghost use Rattle.nb_format.specs.declared.snap_writer.Filling.{Filling};
+ghost use Rattle.nb_format.specs.Snapshot.{IsSnapshot, IsUnfinished};
+ghost use Rattle.nb_format.specs.Writer.{Plan, plan_of, IsEmptyFilling, IsBegun, StaysShut, StaysUnfinished, Closes};
+ghost use Rattle.nb_format.specs.Images.{IsUnfinishedNow, IsShutNow, IsFilledNow, IsBeingWritten, ChangesWith, AddsEach, IsWritten};
+
+use nb_host::Host;
+
+/// A snapshot that is being written: what `begin` says begins it, an `add` for each body of a list goes on
+/// with it, a refused `add` leaves the file unfinished, and after `close`, at Ok or not, the file is the
+/// snapshot or unfinished.
+pub fn law_being_written<H: Host>()
+    ensures begun { (others : List ℕ) (plan : Plan) (filling : Filling) (old new : H)
+        → IsEmptyFilling plan filling → Over H.meaning (FileBecomes plan.file (IsBegun plan)) old new
+        → IsShutNow H.meaning plan.file new
+        → Leads H.meaning (FileBecomes plan.file StaysUnfinished) old new
+        → IsBeingWritten H.meaning others plan filling [] old new }
+    ensures added { (others : List ℕ) (plan : Plan) (filling last : Filling) (bodies more : List Body)
+        (start old new : H) → IsBeingWritten H.meaning others plan filling bodies start old
+        → AddsEach H.meaning more filling last old new
+        → IsBeingWritten H.meaning others plan last (bodies ++ more) start new }
+    ensures refused { (others : List ℕ) (plan : Plan) (filling : Filling) (bodies : List Body)
+        (start old new : H) → IsBeingWritten H.meaning others plan filling bodies start old
+        → Leads H.meaning (FileBecomes (plan_of filling).file StaysShut) old new
+        → Leads H.meaning (ChangesWith others plan.file StaysUnfinished) start new }
+    ensures closed { (others : List ℕ) (plan : Plan) (filling : Filling) (bodies : List Body)
+        (start old new : H) → IsBeingWritten H.meaning others plan filling bodies start old
+        → Leads H.meaning (FileBecomes (plan_of filling).file
+        (Closes filling ((H.meaning.contents old).file (plan_of filling).file))) old new
+        → Leads H.meaning (ChangesWith others plan.file (IsWritten bodies plan.time)) start new }
+{}
+
+/// Where a file was unfinished in every image before its snapshot was begun, every image since is unfinished
+/// in it or has the whole snapshot. A file that is durable and unfinished is so in every image.
+pub fn law_written<H: Host>()
+    ensures every { (others : List ℕ) (file time : ℕ) (bodies : List Body) (start now : H)
+        → IsUnfinishedNow H.meaning file start
+        → Leads H.meaning (ChangesWith others file (IsWritten bodies time)) start now
+        → EverySince H.meaning.crashes
+        (λ image. IsSnapshot (image.file file) bodies time ⊎ IsUnfinished (image.file file)) start now }
+    ensures still { (others : List ℕ) (file : ℕ) (start now : H)
+        → IsUnfinishedNow H.meaning file start
+        → Leads H.meaning (ChangesWith others file StaysUnfinished) start now
+        → EverySince H.meaning.crashes (λ image. IsUnfinished (image.file file)) start now }
+    ensures durable { (file : ℕ) (host : H) → IsDurableFile H.meaning file host
+        → (IsTrue H.meaning.tells → IsUnfinished ((H.meaning.contents host).file file))
+        → IsUnfinishedNow H.meaning file host }
+{}
+
+/// What the writer's next call needs of its file stays through calls on other files, and through a sync:
+/// what `begin` needs, what `add` and `close` need, and that the file is being written.
+pub fn law_filling_kept<H: Host>()
+    ensures unfinished { (others : List ℕ) (file : ℕ) (old new : H) → (Contains others file → ⊥)
+        → Leads H.meaning (AgreesOutside others) old new
+        → IsUnfinishedNow H.meaning file old → IsUnfinishedNow H.meaning file new }
+    ensures others { (others : List ℕ) (filling : Filling) (bodies : List Body) (old new : H)
+        → (Contains others (plan_of filling).file → ⊥) → Leads H.meaning (AgreesOutside others) old new
+        → IsFilledNow H.meaning filling bodies old → IsFilledNow H.meaning filling bodies new }
+    ensures synced { (filling : Filling) (bodies : List Body) (old new : H)
+        → Leads H.meaning Stays old new
+        → IsFilledNow H.meaning filling bodies old → IsFilledNow H.meaning filling bodies new }
+    ensures written { (others : List ℕ) (plan : Plan) (filling : Filling) (bodies : List Body)
+        (start old new : H) → (Contains others plan.file → ⊥)
+        → Leads H.meaning (AgreesOutside others) old new
+        → IsBeingWritten H.meaning others plan filling bodies start old
+        → IsBeingWritten H.meaning others plan filling bodies start new }
+{}
