@@ -1,18 +1,18 @@
 -- The calls of `append`, one after the other.
-use Rattle.std.proofs.Common.{◌≡◌, ℕ, ◌+◌, ◌<◌, ◌≤◌, IsTrue, List, [], ◌∷◌, length, slice_index, refl, sym, ap, subst, ◌∙◌, arith}
-use Rattle.nb_host.specs.Crashes.{CrashModel, ImagesFollow, AgreesOutside, Stays}
+use Rattle.std.proofs.Common.{◌≡◌, ℕ, ◌+◌, ◌≤◌, IsTrue, List, [], ◌∷◌, length, slice_index, sym, ap, subst, ◌∙◌, arith}
+use Rattle.nb_host.specs.Crashes.{ImagesFollow, Stays}
 use Rattle.nb_host.specs.Image.{Image, FileBecomes, IsTorn, IsOverwritten, overwritten}
-use Rattle.nb_host.specs.Meaning.{HostModel, Leads, IsDurable, IsDurableFile}
-use Rattle.nb_host.proofs.Callers.{weaken, becomes_agrees, leads_more, leads_after, leads_then, stays_contents, overwritten_is_torn}
+use Rattle.nb_host.specs.Meaning.{HostModel, Leads, IsDurable}
+use Rattle.nb_host.proofs.Callers.{weaken, becomes_agrees, leads_after, leads_then, stays_contents, overwritten_is_torn, becomes_more, becomes_then, leads_more}
 use Rattle.nb_journal.specs.declared.entry.Entry.{Entry}
 use Rattle.nb_journal.specs.Entries.{IsNext}
 use Rattle.nb_journal.specs.Form.{Log, IsCleanJournal, with_entry, progress_of}
-use Rattle.nb_journal.specs.Images.{IsReady, Appends}
+use Rattle.nb_journal.specs.Images.{IsReady, Appends, IsEntryTorn}
 use Rattle.nb_journal.specs.Laying.{Lays, IsEntryWritten}
 use Rattle.nb_journal.specs.Places.{place_of, page_end}
-use Rattle.nb_journal.proofs.Gates.{kept_journal, gate_open}
+use Rattle.nb_journal.proofs.Gates.{kept_journal, gate_open, torn_by_laying, torn_by_gate}
 use Rattle.nb_journal.proofs.Laid.{written_byte}
-use Rattle.nb_journal.proofs.Steps.{KeepsJournal, laying_keeps, laid_appends, gate_appends, after_sync, agrees_then}
+use Rattle.nb_journal.proofs.Steps.{laying_keeps, laid_appends, gate_appends, after_sync}
 
 -- before the gate
 pub append_lays : {H : Type 0} {m : HostModel H} (log : Log) {entry : Entry} {before : Image} {n : ℕ} {old new : H}
@@ -38,7 +38,7 @@ append_opens m log entry {n = n} {at = at} {old = old} {middle = middle} {synced
     (λ start image honest kept torn.
     let tells = m.tells_if_honest honest in
     let pages : place_of (page_end n) ≤ length ((m.contents old).file 2) =
-    omega (arith, (ready.journal honest).journal.pages, ap page_end count) in
+    omega (arith, (ready.reads honest).journal.pages, ap page_end count) in
     let is_laid : IsEntryWritten k entry ((m.contents synced).file 2) =
     subst (λ (i : ℕ). IsEntryWritten i entry ((m.contents synced).file 2)) count
     (subst (λ (i : Image). IsEntryWritten n entry (i.file 2)) (sym (stays_contents sync)) (laid tells pages)) in
@@ -78,8 +78,18 @@ append_adds m log entry {n = n} {at = at} {old = old} {middle = middle} {synced 
     (gate_open log entry kept is_laid next torn opens).0
 
 -- where all of it leads
-pub append_leads : {H : Type 0} {m : HostModel H} {n at : ℕ} {old middle synced new : H} → Leads m (Lays n) old middle
-    → Leads m Stays middle synced → Leads m (FileBecomes 2 (IsTorn at 1)) synced new → Leads m (AgreesOutside (2 ∷ [])) old new
-append_leads lays sync gate =
-    leads_then (leads_after lays sync) gate (λ start image step. becomes_agrees step)
-    (λ start between image one two. agrees_then (becomes_agrees one) (becomes_agrees two))
+pub laying_leads : {H : Type 0} {m : HostModel H} (n k : ℕ) {old new : H} → n ≡ k → Leads m (Lays n) old new
+    → Leads m (FileBecomes 2 (IsEntryTorn k)) old new
+laying_leads {m = m} n k {old = old} {new = new} same lays =
+    leads_more (subst (λ (i : ℕ). Leads m (Lays i) old new) same lays)
+    (λ start image step. becomes_more step (λ before after keeps. torn_by_laying k keeps))
+
+pub append_leads : {H : Type 0} {m : HostModel H} (n k : ℕ) {at : ℕ} {old middle synced new : H} → n ≡ k → at ≡ place_of n
+    → Leads m (Lays n) old middle → Leads m Stays middle synced → Leads m (FileBecomes 2 (IsTorn at 1)) synced new
+    → Leads m (FileBecomes 2 (IsEntryTorn k)) old new
+append_leads {m = m} n k {at = at} {old = old} {middle = middle} {synced = synced} {new = new} same place lays sync gate =
+    let laid = leads_after (subst (λ (i : ℕ). Leads m (Lays i) old middle) same lays) sync in
+    let torn = subst (λ (a : ℕ). Leads m (FileBecomes 2 (IsTorn a 1)) synced new) (place ∙ ap place_of same) gate in
+    leads_then laid torn
+    (λ start image step. becomes_more step (λ before after keeps. torn_by_laying k keeps))
+    (λ start between image one two. becomes_then one two (λ _ _ _ keeps gate. torn_by_gate k keeps gate))

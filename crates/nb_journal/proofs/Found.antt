@@ -1,14 +1,14 @@
 -- What was found when a file was read.
-use Rattle.std.proofs.Common.{◌≡◌, ◌≢◌, ℕ, ◌+◌, ◌-◌, ◌*◌, ◌/◌, ◌%◌, ◌<◌, ◌≤◌, ◌⊎◌, inl, inr, IsTrue, Result, Ok, Err, List, [], ◌∷◌, ◌++◌, length, take, drop, slice_index, refl, sym, ap, subst, ◌∙◌, arith}
-use Rattle.std.proofs.lemmas.List.{get_or-take, get_or-drop, ext_get_or, get_or_append_left}
+use Rattle.std.proofs.Common.{◌≡◌, ◌≢◌, ℕ, ◌+◌, ◌*◌, ◌%◌, ◌<◌, ◌≤◌, inl, inr, Err, List, length, take, drop, slice_index, refl, sym, ap, subst, ◌∙◌, arith}
+use Rattle.std.proofs.lemmas.List.{get_or-take, get_or-drop, ext_get_or}
 use Rattle.nb_journal.specs.declared.entry.Entry.{Entry}
 use Rattle.nb_journal.specs.declared.error.JournalError.{JournalError}
 use Rattle.nb_journal.specs.declared.error.JournalError.TheVariants.{Fault, NoMemory, Damaged}
-use Rattle.nb_journal.specs.Counters.{Counters, Answers, counters_of, counters_after}
+use Rattle.nb_journal.specs.Counters.{Counters, counters_of, counters_after}
 use Rattle.nb_journal.specs.Entries.{Progress, IsNext}
 use Rattle.nb_journal.specs.Finding.{IsFound, Finds}
-use Rattle.nb_journal.specs.Form.{Log, IsLawful, IsJournal, IsStarted, IsDamaged, LacksPage, HasBadEntry, StopsBehind, text, header, entry_bytes, with_entry, progress_of}
-use Rattle.nb_journal.specs.Places.{place_of, page_end, BeginsWith}
+use Rattle.nb_journal.specs.Form.{Log, IsStarted, IsDamaged, entry_bytes, with_entry, progress_of}
+use Rattle.nb_journal.specs.Places.{place_of, page_end}
 use Rattle.nb_journal.specs.Reading.{HoldsPage, IsReadTo, FindsRest}
 use Rattle.nb_journal.proofs.Gates.{begins_more, lawful_more, progress-with_entry}
 use Rattle.nb_journal.proofs.Texts.{length-text, length-with_entry, length-entry, text_behind}
@@ -21,7 +21,7 @@ slot_is n {file = file} {page = page} holds i within =
     ∙ holds.bytes (n % 128 * 32 + i) (omega arith)
     ∙ ap (λ (k : ℕ). slice_index file k) (omega arith)
 
-counters-with_entry : (log : Log) (entry : Entry) → counters_after entry (counters_of log) ≡ counters_of (with_entry log entry)
+pub counters-with_entry : (log : Log) (entry : Entry) → counters_after entry (counters_of log) ≡ counters_of (with_entry log entry)
 counters-with_entry log entry =
     ap (λ (k : ℕ). record (counters_after entry (counters_of log)) { entries = k }) (sym (length-with_entry log entry))
     ∙ ap (λ (p : Progress). record (counters_of (with_entry log entry)) { progress = p }) (sym (progress-with_entry log entry))

@@ -1,23 +1,31 @@
 -- What writes behind a gate, and of a gate, leave of a journal.
-use Rattle.std.proofs.Common.{◌≡◌, ◌≢◌, ℕ, zero, suc, ◌+◌, ◌-◌, ◌*◌, ◌/◌, ◌%◌, ◌<◌, ◌≤◌, ◌⊎◌, inl, inr, List, [], ◌∷◌, ◌++◌, length, slice_index, refl, sym, ap, subst, ◌∙◌, arith}
+use Rattle.std.proofs.Common.{◌≡◌, ◌≢◌, ℕ, ◌+◌, ◌-◌, ◌%◌, ◌<◌, ◌≤◌, ◌⊎◌, inl, inr, List, [], ◌∷◌, ◌++◌, length, slice_index, refl, sym, ap, subst, ◌∙◌, arith}
 use Rattle.std.proofs.lemmas.Bool.{cases_eq, cases_lt}
 use Rattle.nb_host.specs.Image.{IsTorn}
 use Rattle.nb_journal.specs.declared.entry.Entry.{Entry}
 use Rattle.nb_journal.specs.Entries.{Progress, IsNext, AreLawful, after, after_all}
-use Rattle.nb_journal.specs.Form.{Log, IsLawful, IsJournal, IsCleanJournal, entry_bytes, text, with_entry, progress_of, begun}
-use Rattle.nb_journal.specs.Images.{HasNewPage}
+use Rattle.nb_journal.specs.Form.{Log, IsLawful, IsCleanJournal, entry_bytes, text, with_entry, progress_of, begun}
+use Rattle.nb_journal.specs.Images.{HasNewPage, IsEntryTorn}
 use Rattle.nb_journal.specs.Laying.{KeepsCommitted, IsEntryWritten}
-use Rattle.nb_journal.specs.Places.{place_of, page_end, BeginsWith, IsZeros}
-use Rattle.nb_journal.proofs.Texts.{length-text, length-with_entry, text_before, text_behind, entry_gate_is, length-entry}
+use Rattle.nb_journal.specs.Places.{place_of, page_end, BeginsWith}
+use Rattle.nb_journal.proofs.Texts.{length-text, length-with_entry, text_before, text_behind, entry_gate_is}
 
 pub keeps_itself : (n : ℕ) (file : List ℕ) → KeepsCommitted n file file
-keeps_itself n file = record { no_shorter = omega arith; below = λ i _ _. refl; above = λ i _ _ _. refl }
+keeps_itself n file = record {
+  no_shorter = omega arith;
+  below = λ i _ _. refl;
+  above = λ i _ _ _. refl;
+  no_longer = omega arith;
+  behind = λ i _ _. refl;
+}
 
 pub keeps_both : {n : ℕ} {old middle new : List ℕ} → KeepsCommitted n old middle → KeepsCommitted n middle new → KeepsCommitted n old new
 keeps_both {n = n} first second = record {
   no_shorter = omega (arith, first.no_shorter, second.no_shorter);
   below = λ i within low. second.below i (omega (arith, first.no_shorter)) low ∙ first.below i within low;
   above = λ i within low high. second.above i (omega (arith, first.no_shorter)) low high ∙ first.above i within low high;
+  no_longer = omega (arith, first.no_longer, second.no_longer);
+  behind = λ i within past. second.behind i (omega (arith, first.no_shorter)) past ∙ first.behind i within past;
 }
 
 -- the writes of an entry behind its gate, and of the page behind it
@@ -26,6 +34,8 @@ torn_slot n torn = record {
   no_shorter = torn.no_shorter;
   below = λ i within low. torn.below i within (omega arith);
   above = λ i within low high. torn.above i within (omega arith);
+  no_longer = omega (arith, torn.no_longer);
+  behind = λ i within past. torn.above i within (omega arith);
 }
 
 pub torn_page : (n : ℕ) {old new : List ℕ} → n % 128 ≡ 127 → IsTorn (place_of (n + 1)) 4096 old new → KeepsCommitted n old new
@@ -33,6 +43,28 @@ torn_page n last torn = record {
   no_shorter = torn.no_shorter;
   below = λ i within low. torn.below i within (omega arith);
   above = λ i within low high. absurd (omega arith);
+  no_longer = omega (arith, torn.no_longer);
+  behind = λ i within past. torn.above i within (omega arith);
+}
+
+-- an entry that is laid, and its gate, perhaps in part
+pub torn_by_laying : (n : ℕ) {old new : List ℕ} → KeepsCommitted n old new → IsEntryTorn n old new
+torn_by_laying n keeps = record {
+  no_shorter = keeps.no_shorter;
+  no_longer = keeps.no_longer;
+  before = λ i within low. keeps.below i within (omega arith);
+  page = keeps.above;
+  behind = keeps.behind;
+}
+
+pub torn_by_gate : (n : ℕ) {old laid new : List ℕ} → KeepsCommitted n old laid → IsTorn (place_of n) 1 laid new
+    → IsEntryTorn n old new
+torn_by_gate n keeps torn = record {
+  no_shorter = omega (arith, keeps.no_shorter, torn.no_shorter);
+  no_longer = omega (arith, keeps.no_longer, torn.no_longer);
+  before = λ i within low. torn.below i (omega (arith, keeps.no_shorter)) low ∙ keeps.below i within (omega arith);
+  page = λ i within low high. torn.above i (omega (arith, keeps.no_shorter)) (omega arith) ∙ keeps.above i within low high;
+  behind = λ i within past. torn.above i (omega (arith, keeps.no_shorter)) (omega arith) ∙ keeps.behind i within past;
 }
 
 pub kept_begins : {n : ℕ} {old new bytes : List ℕ} → KeepsCommitted n old new → length bytes ≤ place_of n → BeginsWith bytes old

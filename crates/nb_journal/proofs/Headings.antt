@@ -1,15 +1,15 @@
 -- What page 0 tells.
-use Rattle.std.proofs.Common.{◌≡◌, ℕ, ◌+◌, ◌^◌, ◌<◌, ◌≤◌, ◌⊎◌, inl, inr, List, [], ◌∷◌, ◌++◌, length, take, drop, slice_index, refl, sym, ap, subst, ◌∙◌, arith}
+use Rattle.std.proofs.Common.{◌≡◌, ℕ, ◌+◌, ◌^◌, ◌<◌, inl, inr, List, length, take, drop, slice_index, refl, sym, ap, subst, ◌∙◌, arith}
 use Rattle.std.specs.Int.{w64, to_le_bytes}
-use Rattle.std.proofs.lemmas.List.{ext_get_or, get_or-take, get_or-drop, get_or_append_left, get_or-append_right}
+use Rattle.std.proofs.lemmas.List.{ext_get_or, get_or-take, get_or_append_left}
 use Rattle.nb_host.specs.Image.{readable}
 use Rattle.nb_host.proofs.Callers.{length-readable, slice_index-readable}
 use Rattle.nb_model.specs.declared.edge.Edge.{Edge}
 use Rattle.nb_model.specs.declared.edge.Edge.TheVariants.{Open, Wrap}
 use Rattle.nb_journal.specs.declared.form.Heading.{Heading}
 use Rattle.nb_journal.specs.Counters.{counters_of, log_under, heading_of}
-use Rattle.nb_journal.specs.Form.{Log, IsLawful, IsStarted, header, text, edge_number}
-use Rattle.nb_journal.specs.Places.{place_of, BeginsWith}
+use Rattle.nb_journal.specs.Form.{Log, IsLawful, header, text, edge_number}
+use Rattle.nb_journal.specs.Places.{BeginsWith}
 use Rattle.nb_journal.specs.Reading.{IsReadTo}
 use Rattle.nb_journal.proofs.Spelled.{same_u64}
 use Rattle.nb_journal.proofs.Texts.{length-header, length-text}
@@ -20,20 +20,20 @@ pub record StandsAt (page : List ℕ) (at n : ℕ) : Type 0 where
   pub bytes : take 8 (drop at page) ≡ to_le_bytes w64 n
 
 -- the fields of a header
-record HasNumbers (page : List ℕ) (log : Log) : Type 0 where
-  digit : slice_index page 7 ≡ 48 + log.version
-  grav : take 8 (drop 8 page) ≡ to_le_bytes w64 log.params.grav
-  theta_num : take 8 (drop 16 page) ≡ to_le_bytes w64 log.params.theta_num
-  theta_den : take 8 (drop 24 page) ≡ to_le_bytes w64 log.params.theta_den
-  soft : take 8 (drop 32 page) ≡ to_le_bytes w64 log.params.soft
-  leaf : take 8 (drop 40 page) ≡ to_le_bytes w64 log.params.leaf
-  every : take 8 (drop 48 page) ≡ to_le_bytes w64 log.params.every
-  count : take 8 (drop 56 page) ≡ to_le_bytes w64 log.count
-  time : take 8 (drop 64 page) ≡ to_le_bytes w64 log.begin_time
-  gone : take 8 (drop 72 page) ≡ to_le_bytes w64 log.begin_gone
-  edge : take 8 (drop 80 page) ≡ to_le_bytes w64 (edge_number log.params.edge)
+pub record HasNumbers (page : List ℕ) (log : Log) : Type 0 where
+  pub digit : slice_index page 7 ≡ 48 + log.version
+  pub grav : take 8 (drop 8 page) ≡ to_le_bytes w64 log.params.grav
+  pub theta_num : take 8 (drop 16 page) ≡ to_le_bytes w64 log.params.theta_num
+  pub theta_den : take 8 (drop 24 page) ≡ to_le_bytes w64 log.params.theta_den
+  pub soft : take 8 (drop 32 page) ≡ to_le_bytes w64 log.params.soft
+  pub leaf : take 8 (drop 40 page) ≡ to_le_bytes w64 log.params.leaf
+  pub every : take 8 (drop 48 page) ≡ to_le_bytes w64 log.params.every
+  pub count : take 8 (drop 56 page) ≡ to_le_bytes w64 log.count
+  pub time : take 8 (drop 64 page) ≡ to_le_bytes w64 log.begin_time
+  pub gone : take 8 (drop 72 page) ≡ to_le_bytes w64 log.begin_gone
+  pub edge : take 8 (drop 80 page) ≡ to_le_bytes w64 (edge_number log.params.edge)
 
-header_has : (log : Log) → HasNumbers (header 83 log) log
+pub header_has : (log : Log) → HasNumbers (header 83 log) log
 unfolding header
 header_has log = record {
   digit = refl;
@@ -52,7 +52,7 @@ header_has log = record {
 number_is : {page : List ℕ} {at n m : ℕ} → StandsAt page at n → m < 2 ^ 64 → take 8 (drop at page) ≡ to_le_bytes w64 m → n ≡ m
 number_is {n = n} {m = m} stands small has = same_u64 n m stands.small small (sym stands.bytes ∙ has)
 
-edge_small : (edge : Edge) → edge_number edge < 2 ^ 64
+pub edge_small : (edge : Edge) → edge_number edge < 2 ^ 64
 edge_small Open = omega arith
 edge_small Wrap = omega arith
 

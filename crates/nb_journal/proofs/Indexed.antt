@@ -1,9 +1,8 @@
 -- One entry of a journal, by its number.
-use Rattle.std.proofs.Common.{◌≡◌, ℕ, zero, suc, ◌+◌, ◌-◌, ◌*◌, ◌^◌, ◌<◌, ◌≤◌, Option, Some, List, [], ◌∷◌, ◌++◌, length, take, drop, get_or, slice_index, refl, sym, ap, subst, ◌∙◌, arith, length-take}
-use Rattle.std.specs.Prelude.{slice_get, nat_lt, true, false}
+use Rattle.std.proofs.Common.{◌≡◌, ℕ, zero, suc, ◌+◌, ◌-◌, ◌*◌, ◌^◌, ◌<◌, ◌≤◌, Some, List, [], ◌∷◌, length, take, get_or, slice_index, sym, ap, subst, ◌∙◌, arith, length-take}
+use Rattle.std.specs.Prelude.{slice_get}
 use Rattle.std.specs.Int.{abs_diff}
 use Rattle.std.specs.List.{flat_map}
-use Rattle.std.proofs.lemmas.Bool.{cases_lt}
 use Rattle.std.proofs.lemmas.Bool.Decides.{nat_tests}
 use Rattle.std.proofs.lemmas.List.{ext_get_or, get_or-take, get_or-append_right}
 use Rattle.std.proofs.lemmas.List.Concat.{get_or-flat_map}
@@ -12,11 +11,9 @@ use Rattle.nb_host.specs.Image.{readable}
 use Rattle.nb_host.proofs.Callers.{length-readable, slice_index-readable}
 use Rattle.nb_journal.specs.declared.entry.Entry.{Entry}
 use Rattle.nb_journal.specs.declared.entry.Entry.TheVariants.{Leg, Tick}
-use Rattle.nb_journal.specs.Counters.{Counters, Answers}
 use Rattle.nb_journal.specs.Entries.{Progress, IsNext, AreLawful, after, toward}
-use Rattle.nb_journal.specs.Finding.{IsFound}
 use Rattle.nb_journal.specs.Form.{Log, IsLawful, IsJournal, header, text, entry_bytes, begun}
-use Rattle.nb_journal.specs.Places.{place_of, page_end, BeginsWith}
+use Rattle.nb_journal.specs.Places.{place_of, BeginsWith}
 use Rattle.nb_journal.specs.Reading.{HasFields}
 use Rattle.nb_journal.proofs.Texts.{length-header, length-entry, length-entries, length-text}
 

@@ -1,13 +1,14 @@
 -- What is written of an entry, before its gate.
-use Rattle.std.proofs.Common.{◌≡◌, ℕ, ◌+◌, ◌-◌, ◌%◌, ◌<◌, ◌≤◌, List, [], ◌∷◌, length, take, drop, slice_index, replicate, refl, sym, ap, subst, ◌∙◌, arith, length-drop}
+use Rattle.std.proofs.Common.{◌≡◌, ◌≢◌, ℕ, ◌+◌, ◌-◌, ◌%◌, ◌<◌, ◌≤◌, List, length, take, drop, slice_index, replicate, refl, sym, ap, subst, ◌∙◌, arith, length-drop}
 use Rattle.std.proofs.lemmas.List.{get_or-drop, get_or-replicate, take_all}
-use Rattle.nb_host.specs.Image.{Image, FileBecomes, IsTorn, overwritten, readable}
+use Rattle.std.proofs.lemmas.Bool.Decides.{nat_tests}
+use Rattle.nb_host.specs.Image.{Image, FileBecomes, IsTorn, overwritten}
 use Rattle.nb_host.proofs.Callers.{becomes_more, readable-overwritten, slice_index-readable, length-readable, overwritten_is_torn}
 use Rattle.nb_journal.specs.declared.entry.Entry.{Entry}
 use Rattle.nb_journal.specs.Form.{entry_bytes}
-use Rattle.nb_journal.specs.Images.{HasNewPage}
-use Rattle.nb_journal.specs.Laying.{KeepsCommitted, Lays, IsEntryWritten}
-use Rattle.nb_journal.specs.Places.{place_of, page_end, IsZeros}
+use Rattle.nb_journal.specs.Images.{page_begun}
+use Rattle.nb_journal.specs.Laying.{Lays}
+use Rattle.nb_journal.specs.Places.{place_of, IsZeros}
 use Rattle.nb_journal.proofs.Texts.{length-entry}
 use Rattle.nb_journal.proofs.Gates.{torn_slot, torn_page}
 
@@ -79,3 +80,12 @@ pub slot_stays : (n : ℕ) (entry : Entry) (at : ℕ) (bytes old new : List ℕ)
 slot_stays n entry at bytes old new at_is is whole slot i some within =
     ap (λ (w : List ℕ). slice_index w (place_of n + i)) is
     ∙ (overwritten_is_torn at bytes old).below (place_of n + i) (omega arith) (omega arith) ∙ slot i some within
+
+-- the file with the page behind entry n, where that is the last of its page, and where it isn't
+pub begun-last : (n : ℕ) (file : List ℕ) → n % 128 ≡ 127 → overwritten (place_of (n + 1)) (replicate 4096 0) file ≡ page_begun n file
+unfolding page_begun
+begun-last n file last = rw last refl
+
+pub begun-within : (n : ℕ) (file : List ℕ) → n % 128 ≢ 127 → file ≡ page_begun n file
+unfolding page_begun
+begun-within n file within = grind (arith, nat_tests)

@@ -1,3 +1,4 @@
+pub mod Callers
 mod Texts
 mod Gates
 mod Steps
@@ -9,3 +10,5 @@ mod Found
 mod Headings
 mod Indexed
 mod Unique
+mod Decided
+mod Total

@@ -1,15 +1,15 @@
 -- The calls of `prepare` and of `start_gate`, one after the other.
-use Rattle.std.proofs.Common.{◌≡◌, ◌≢◌, ℕ, zero, suc, ◌+◌, ◌-◌, ◌*◌, ◌/◌, ◌<◌, ◌≤◌, ◌⊎◌, inl, inr, IsTrue, Contains, List, [], ◌∷◌, ◌++◌, length, take, drop, slice_index, replicate, refl, sym, ap, subst, ◌∙◌, arith, length-append, length-take}
+use Rattle.std.proofs.Common.{◌≡◌, ◌≢◌, ℕ, zero, suc, ◌+◌, ◌*◌, ◌<◌, ◌≤◌, ◌⊎◌, inl, inr, IsTrue, Contains, List, [], ◌∷◌, ◌++◌, length, slice_index, replicate, refl, sym, ap, subst, ◌∙◌, arith, length-append}
 use Rattle.std.proofs.lemmas.Bool.{cases_eq, cases_lt}
 use Rattle.std.proofs.lemmas.List.{append-nil, get_or_append_left, get_or-append-add, length-replicate, drop_all}
-use Rattle.std.proofs.lemmas.Grind.{common_steps}
 use Rattle.nb_host.specs.Crashes.{ImagesFollow, AgreesOutside, Stays}
-use Rattle.nb_host.specs.Image.{Image, FileBecomes, IsTorn, IsPartlyCut, IsOverwritten, overwritten}
+use Rattle.nb_host.specs.declared.host.Channel.{Channel}
+use Rattle.nb_host.specs.Image.{Image, SaysPart, FileBecomes, IsTorn, IsPartlyCut, IsOverwritten, overwritten}
 use Rattle.nb_host.specs.Meaning.{HostModel, Leads, IsDurable, IsDurableFile}
-use Rattle.nb_host.proofs.Callers.{goes_on, stays_after, becomes_agrees, agrees_itself, overwritten-at_end, overwritten-within, overwritten_is_torn, leads_then, leads_after, stays_contents, durable_file_stays}
-use Rattle.nb_journal.specs.Form.{Log, header, text, entry_bytes, IsLawful, IsFresh, IsCleanJournal}
-use Rattle.nb_journal.specs.Images.{prepared, IsFreshNow, IsPrepared, IsReady, IsCommitted, StaysFresh, Starts}
-use Rattle.nb_journal.specs.Places.{place_of, page_end, BeginsWith}
+use Rattle.nb_host.proofs.Callers.{goes_on, becomes_agrees, agrees_itself, overwritten-at_end, overwritten-within, overwritten_is_torn, leads_more, stays_contents}
+use Rattle.nb_journal.specs.Form.{Log, header, text, IsLawful, IsFresh, IsCleanJournal}
+use Rattle.nb_journal.specs.Images.{prepared, SparesJournal, IsLeft, IsFreshNow, IsPrepared, StaysFresh, Starts}
+use Rattle.nb_journal.specs.Places.{place_of}
 use Rattle.nb_journal.proofs.Texts.{length-header, length-text}
 use Rattle.nb_journal.proofs.Laid.{written_byte, written_whole, zeros_are}
 use Rattle.nb_journal.proofs.Steps.{knowing, after_sync, agrees_then}
@@ -130,7 +130,7 @@ pub shorten_fresh : {H : Type 0} {m : HostModel H} {old new : H} → IsFreshNow 
 shorten_fresh now run =
     knowing run (λ start image honest is step. record {
       others = becomes_agrees step;
-      fresh = cut_fresh (subst IsFresh (sym (now.durable start honest is)) (now.fresh honest)) step.file;
+      fresh = cut_fresh (subst IsFresh (sym (now.images start honest is)) (now.reads honest)) step.file;
     })
 
 -- the header, over a file no longer than it
@@ -179,7 +179,7 @@ pub start_syncs : {H : Type 0} {m : HostModel H} {log : Log} {before : Image} {o
 start_syncs ready run =
     knowing run (λ start image honest is same. record {
       others = subst (λ (i : Image). AgreesOutside (2 ∷ []) start i) (sym same) (agrees_itself (2 ∷ []) start);
-      either = inl (subst (λ (i : Image). IsFresh (i.file 2)) (sym same) (ready.fresh start honest is));
+      either = inl (subst (λ (i : Image). IsFresh (i.file 2)) (sym same) (ready.images start honest is));
     })
 
 -- and the gate
@@ -190,7 +190,7 @@ start_opens m log {old = old} {middle = middle} lawful none ready sync durable g
     after_sync m (start_syncs {before = m.contents old} ready sync.images) durable gate (λ start image step. step)
     (λ start image honest one two.
     let same = stays_contents sync in
-    let laid : (m.contents middle).file 2 ≡ prepared log = ap (λ (i : Image). i.file 2) same ∙ ready.laid honest in
+    let laid : (m.contents middle).file 2 ≡ prepared log = ap (λ (i : Image). i.file 2) same ∙ ready.reads honest in
     let before : AgreesOutside (2 ∷ []) (m.contents old) image =
     subst (λ (i : Image). AgreesOutside (2 ∷ []) i image) same (becomes_agrees two) in
     record {
@@ -201,39 +201,35 @@ start_opens m log {old = old} {middle = middle} lawful none ready sync durable g
       ];
     })
 
--- What stays through calls on other files.
+-- What stays through calls that spare the file.
 
-pub fresh_stays : {H : Type 0} (m : HostModel H) {files : List ℕ} {old new : H} → (Contains files 2 → ⊥) → IsFreshNow m old
-    → Leads m (AgreesOutside files) old new → IsFreshNow m new
-fresh_stays m spared now leads = record {
-  fresh = λ honest.
-      subst IsFresh (sym ((leads.contents (m.tells_if_honest honest)).others 2 spared)) (now.fresh honest);
-  durable = durable_file_stays m spared now.durable leads.images;
-}
-
-pub prepared_stays : {H : Type 0} (m : HostModel H) {files : List ℕ} {log : Log} {old new : H} → (Contains files 2 → ⊥)
-    → IsPrepared m log old → Leads m (AgreesOutside files) old new → IsPrepared m log new
-prepared_stays m spared now leads = record {
-  laid = λ honest. (leads.contents (m.tells_if_honest honest)).others 2 spared ∙ now.laid honest;
-  fresh = λ image honest is.
+pub left_stays : {H : Type 0} (m : HostModel H) {this : List ℕ → Type 0} {that : List ℕ → List ℕ → Type 0} {old new : H}
+    → Leads m SparesJournal old new → IsLeft m this that old → IsLeft m this that new
+left_stays m {this = this} {that = that} {old = old} leads left = record {
+  reads = λ honest. subst this (sym (leads.contents (m.tells_if_honest honest))) (left.reads honest);
+  images = λ image honest is.
       let start = (leads.images.follows honest).now image is in
-      subst IsFresh (sym (start.2.others 2 spared)) (now.fresh start.0 honest start.1);
+      subst (λ (w : List ℕ). that w (image.file 2)) (sym (leads.contents (m.tells_if_honest honest)))
+      (subst (λ (w : List ℕ). that ((m.contents old).file 2) w) (sym start.2) (left.images start.0 honest start.1));
 }
 
-pub ready_stays : {H : Type 0} (m : HostModel H) {files : List ℕ} {log : Log} {old new : H} → (Contains files 2 → ⊥)
-    → IsReady m log old → Leads m (AgreesOutside files) old new → IsReady m log new
-ready_stays m {log = log} spared now leads = record {
-  journal = λ honest.
-      subst (λ (w : List ℕ). IsCleanJournal log w) (sym ((leads.contents (m.tells_if_honest honest)).others 2 spared)) (now.journal honest);
-  durable = durable_file_stays m spared now.durable leads.images;
-}
+pub others_spare : {H : Type 0} {m : HostModel H} {files : List ℕ} {old new : H} → (Contains files 2 → ⊥)
+    → Leads m (AgreesOutside files) old new → Leads m SparesJournal old new
+others_spare apart leads = leads_more leads (λ start image agrees. agrees.others 2 apart)
+
+pub sync_spares : {H : Type 0} {m : HostModel H} {old new : H} → Leads m Stays old new → Leads m SparesJournal old new
+sync_spares leads = leads_more leads (λ start image same. ap (λ (i : Image). i.file 2) same)
+
+pub say_spares : {H : Type 0} {m : HostModel H} {channel : Channel} {bytes : List ℕ} {old new : H}
+    → Leads m (SaysPart channel bytes) old new → Leads m SparesJournal old new
+say_spares leads = leads_more leads (λ start image says. ap (λ (f : ℕ → List ℕ). f 2) says.2.files)
 
 -- what `prepare` leaves
 pub prepared_then : {H : Type 0} (m : HostModel H) (log : Log) {old new : H} → ImagesFollow m.crashes old new StaysFresh
     → (IsTrue m.tells → (m.contents new).file 2 ≡ prepared log) → IsPrepared m log new
 prepared_then m log run laid = record {
-  laid = λ honest. laid (m.tells_if_honest honest);
-  fresh = λ image honest is. ((run.follows honest).now image is).2.fresh;
+  reads = λ honest. laid (m.tells_if_honest honest);
+  images = λ image honest is. ((run.follows honest).now image is).2.fresh;
 }
 
 -- The gate is shut once the header was written.

@@ -1,14 +1,15 @@
 -- How the calls that write the journal lead from image to image.
-use Rattle.std.proofs.Common.{◌≡◌, ℕ, ◌+◌, ◌<◌, ◌≤◌, ◌⊎◌, inl, inr, IsTrue, List, [], ◌∷◌, length, slice_index, refl, sym, ap, subst, ◌∙◌, arith}
-use Rattle.nb_host.specs.Crashes.{CrashModel, ImagesFollow, AgreesOutside, Stays}
+use Rattle.std.proofs.Common.{◌≡◌, ℕ, ◌<◌, ◌≤◌, inl, inr, IsTrue, Result, List, [], ◌∷◌, length, sym, subst, ◌∙◌, arith}
+use Rattle.std.proofs.lemmas.Bool.Decides.{nat_tests}
+use Rattle.nb_host.specs.Crashes.{CrashModel, ImagesFollow, AgreesOutside}
 use Rattle.nb_host.specs.Image.{Image, FileBecomes, IsTorn}
-use Rattle.nb_host.specs.Meaning.{HostModel, Leads, IsDurable, IsDurableFile}
-use Rattle.nb_host.proofs.Callers.{goes_on, stays_after, becomes_agrees, agrees_itself, becomes_then}
+use Rattle.nb_host.specs.Meaning.{HostModel, RanSyncing, IsDurable}
+use Rattle.nb_host.proofs.Callers.{goes_on, becomes_agrees, becomes_then}
 use Rattle.nb_journal.specs.declared.entry.Entry.{Entry}
 use Rattle.nb_journal.specs.Entries.{IsNext}
-use Rattle.nb_journal.specs.Form.{Log, IsFresh, IsCleanJournal, with_entry, progress_of}
-use Rattle.nb_journal.specs.Images.{IsReady, IsCommitted, HasEntry, HasNewPage, Appends}
-use Rattle.nb_journal.specs.Laying.{KeepsCommitted, Lays, IsEntryWritten}
+use Rattle.nb_journal.specs.Form.{Log, IsCleanJournal, progress_of}
+use Rattle.nb_journal.specs.Images.{syncs_of_cut, IsReady, Appends}
+use Rattle.nb_journal.specs.Laying.{Lays, IsEntryWritten}
 use Rattle.nb_journal.specs.Places.{place_of}
 use Rattle.nb_journal.proofs.Gates.{kept_journal, torn_gate, keeps_both}
 
@@ -31,6 +32,26 @@ knowing run more = record {
     keeps = by.keeps;
   };
 }
+
+-- How often calls sync, as far as it is known: of a host that tells.
+pub syncing_told : {H T E : Type 0} {m : HostModel H} {one two : ℕ} {fault : E} {by : Image → Image → Type 0} {old new : H}
+    {result : Result T E} → (IsTrue m.tells → one ≡ two) → RanSyncing m one fault by old new result
+    → RanSyncing m two fault by old new result
+syncing_told same ran = record {
+  leads = ran.leads;
+  count = ran.count;
+  rose = ran.rose;
+  spared = ran.spared;
+  refused = ran.refused;
+  synced = λ tells ok. omega (arith, same tells, ran.synced tells ok);
+  at_most = λ tells. omega (arith, same tells, ran.at_most tells);
+}
+
+pub long_syncs : (file : List ℕ) → 4096 < length file → 1 ≡ syncs_of_cut file
+long_syncs file long = grind (arith, nat_tests)
+
+pub short_syncs : (file : List ℕ) → length file ≤ 4096 → 0 ≡ syncs_of_cut file
+short_syncs file short = grind (arith, nat_tests)
 
 -- What is written after a sync: each image is one before it, or follows from what read at the sync.
 pub after_sync : {H : Type 0} (m : HostModel H) {old middle new : H} {S T U : Image → Image → Type 0}
@@ -64,7 +85,7 @@ pub record KeepsJournal (log : Log) (start image : Image) : Type 0 where
 ready_image : {H : Type 0} {m : HostModel H} {log : Log} {host : H} → IsReady m log host → (image : Image)
     → IsTrue m.crashes.is_honest → m.crashes.may_leave host image → IsCleanJournal log (image.file 2)
 ready_image {log = log} ready image honest is =
-    subst (λ (file : List ℕ). IsCleanJournal log file) (sym (ready.durable image honest is)) (ready.journal honest)
+    subst (λ (file : List ℕ). IsCleanJournal log file) (sym (ready.images image honest is)) (ready.reads honest)
 
 -- laying an entry leaves the journal in every image
 pub laying_keeps : {H : Type 0} {m : HostModel H} {log : Log} {old new : H} → IsReady m log old

@@ -1,13 +1,13 @@
 -- A file is one journal at most, or damaged at one place.
-use Rattle.std.proofs.Common.{◌≡◌, ◌≢◌, ℕ, zero, suc, ◌+◌, ◌-◌, ◌*◌, ◌/◌, ◌%◌, ◌<◌, ◌≤◌, ◌⊎◌, inl, inr, List, [], ◌∷◌, ◌++◌, length, take, get_or, slice_index, refl, sym, ap, subst, ◌∙◌, arith, length-take}
+use Rattle.std.proofs.Common.{◌≡◌, ℕ, zero, suc, ◌+◌, ◌%◌, ◌<◌, ◌≤◌, ◌⊎◌, inl, inr, List, [], ◌∷◌, length, take, get_or, slice_index, sym, ap, subst, ◌∙◌, arith, length-take}
 use Rattle.std.proofs.lemmas.Bool.{cases_eq, cases_lt}
 use Rattle.std.proofs.lemmas.List.{ext_get_or, get_or-take}
 use Rattle.nb_journal.specs.declared.entry.Entry.{Entry}
-use Rattle.nb_journal.specs.declared.entry.Entry.TheVariants.{Leg, Tick}
+use Rattle.nb_journal.specs.declared.entry.Entry.TheVariants.{Leg}
 use Rattle.nb_journal.specs.declared.form.Heading.{Heading}
 use Rattle.nb_journal.specs.Counters.{heading_of}
 use Rattle.nb_journal.specs.Entries.{Progress, IsNext, AreLawful, after, after_all}
-use Rattle.nb_journal.specs.Form.{Log, IsLawful, IsFresh, IsJournal, IsStarted, IsDamaged, LacksPage, HasBadEntry, StopsBehind, header, text, entry_bytes, with_entry, begun, progress_of}
+use Rattle.nb_journal.specs.Form.{Log, IsLawful, IsFresh, IsJournal, IsDamaged, StopsBehind, header, text, entry_bytes, begun, progress_of}
 use Rattle.nb_journal.specs.Places.{place_of, page_end, BeginsWith}
 use Rattle.nb_journal.proofs.Gates.{begins_more}
 use Rattle.nb_journal.proofs.Headings.{same_heading, text_header}

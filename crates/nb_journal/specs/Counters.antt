@@ -1,5 +1,5 @@
 -- What a `Journal` keeps of its file.
-use Rattle.std.specs.Prelude.{◌≡◌, ℕ, ◌+◌, ◌*◌, ◌^◌, ◌<◌, ◌≤◌, List, [], length}
+use Rattle.std.specs.Prelude.{◌≡◌, ℕ, ◌+◌, ◌*◌, ◌≤◌, [], length}
 use Rattle.std.specs.Int.{abs_diff}
 use Rattle.nb_model.specs.declared.params.Params.{Params}
 use Rattle.nb_model.specs.Limits.{most_bodies, most_ticks}

@@ -1,18 +1,20 @@
 -- How an entry is laid behind its gate, before the gate opens.
-use Rattle.std.specs.Prelude.{◌≡◌, ℕ, ◌+◌, ◌<◌, ◌≤◌, List, length, slice_index}
+use Rattle.std.specs.Prelude.{◌≡◌, ℕ, ◌+◌, ◌<◌, ◌≤◌, max, List, length, slice_index}
 use Rattle.nb_host.specs.Image.{Image, FileBecomes}
 use Rattle.nb_journal.specs.declared.entry.Entry.{Entry}
 use Rattle.nb_journal.specs.Form.{entry_bytes}
 use Rattle.nb_journal.specs.Images.{HasNewPage}
 use Rattle.nb_journal.specs.Places.{journal_file, entry_length, place_of, page_end}
 
--- Before the gate of entry n is written, the file may change behind that gate, within the entry, and behind the entry's
--- page. Only the last entry of a page has anything written there; the relation holds of every one, so that it composes.
+-- Before the gate of entry n is written, the file may change behind that gate, within the entry, and on the page behind the
+-- entry's, where it is the last of its page.
 pub record KeepsCommitted (n : ℕ) (old new : List ℕ) : Type 0 where
   pub no_shorter : length old ≤ length new
   pub below : (i : ℕ) → i < length old → i ≤ place_of n → slice_index new i ≡ slice_index old i
   pub above : (i : ℕ) → i < length old → place_of (n + 1) ≤ i → i < place_of (page_end n)
       → slice_index new i ≡ slice_index old i
+  pub no_longer : length new ≤ max (length old) (place_of (page_end (n + 1)))
+  pub behind : (i : ℕ) → i < length old → place_of (page_end (n + 1)) ≤ i → slice_index new i ≡ slice_index old i
 
 abbrev pub Lays : ℕ → Image → Image → Type 0
 Lays n = FileBecomes journal_file (KeepsCommitted n)

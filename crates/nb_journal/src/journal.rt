@@ -1,15 +1,15 @@
 //! A started journal.
 
-ghost use Rattle.std.specs.Prelude.{◌≡◌, ◌≢◌, ◌^◌, ◌<◌, ◌≤◌, [], ◌∷◌, length, IsTrue, ℕ, ◌↔◌, IfSome, None, Err, IfOk, OnOk};
+ghost use Rattle.std.specs.Prelude.{◌≡◌, ◌≢◌, ◌+◌, ◌^◌, ◌<◌, ◌≤◌, [], ◌∷◌, length, IsTrue, ℕ, ◌↔◌, IfSome, None, Err, IfOk, OnOk};
 ghost use Rattle.nb_host.specs.Crashes.{AgreesOutside, ImagesFollow, Stays};
 ghost use Rattle.nb_host.specs.Image.{FileBecomes, IsOverwritten, IsTorn};
-ghost use Rattle.nb_host.specs.Meaning.{IsDurable, Over, Ran};
+ghost use Rattle.nb_host.specs.Meaning.{IsDurable, Over, Ran, RanSyncing};
 ghost use Rattle.nb_journal.specs.declared.entry.Entry.{Entry as Entries};
 ghost use Rattle.nb_journal.specs.Counters.{Answers, AreInReach, counters_after, counters_of, log_under};
 ghost use Rattle.nb_journal.specs.Entries.{IsNext, toward};
 ghost use Rattle.nb_journal.specs.Finding.{IsEntryOf, LacksEntry};
 ghost use Rattle.nb_journal.specs.Form.{Log, IsLawful, IsCleanJournal, entry_bytes, with_entry};
-ghost use Rattle.nb_journal.specs.Images.{IsReady, Appends};
+ghost use Rattle.nb_journal.specs.Images.{entry_laid, entry_added, IsEntryTorn, IsReady, Appends};
 ghost use Rattle.nb_journal.specs.Laying.{Lays, IsEntryWritten};
 ghost use Rattle.nb_journal.specs.Places.{journal_file, place_of, page_end};
 
@@ -140,12 +140,14 @@ impl Journal {
         ensures added { OnOk result ((log : Log) → Answers log self → IsTrue H.meaning.tells
             → IsCleanJournal log ((H.meaning.contents host.old).file journal_file)
             → IsCleanJournal (with_entry log entry) ((H.meaning.contents host.new).file journal_file)) }
+        ensures written { OnOk result (IsTrue H.meaning.tells → (H.meaning.contents host.new).file journal_file
+            ≡ entry_added self.entries entry ((H.meaning.contents host.old).file journal_file)) }
         ensures durable { OnOk result (IsDurable H.meaning host.new) }
         ensures images { (log : Log) → Answers log self → IsReady H.meaning log host.old
             → ImagesFollow H.meaning.crashes host.old host.new
             (Appends log entry (H.meaning.contents host.old)) }
-        ensures ran { Ran H.meaning HostError.Fault (AgreesOutside (journal_file ∷ [])) host.old host.new
-            result }
+        ensures ran { RanSyncing H.meaning 2 HostError.Fault
+            (FileBecomes journal_file (IsEntryTorn self.entries)) host.old host.new result }
     {
         let entries = self.entries;
         let journal = self.with(entry);
@@ -249,6 +251,8 @@ fn lay<H: Host>(host: &mut H, entries: u64, entry: Entry) -> Result<(), HostErro
     ensures laid { OnOk result (IsTrue H.meaning.tells
         → place_of (page_end entries) ≤ length ((H.meaning.contents host.old).file journal_file)
         → IsEntryWritten entries entry ((H.meaning.contents host.new).file journal_file)) }
+    ensures written { OnOk result (IsTrue H.meaning.tells → (H.meaning.contents host.new).file journal_file
+        ≡ entry_laid entries entry ((H.meaning.contents host.old).file journal_file)) }
     ensures ran { Ran H.meaning HostError.Fault (Lays entries) host.old host.new result }
 {
     let bytes = spell(entry);
@@ -266,8 +270,8 @@ pub(crate) fn open_gate<H: Host>(host: &mut H, place: u64, gate: u8) -> Result<(
     ensures opened { OnOk result (Over H.meaning (FileBecomes journal_file (IsOverwritten place (gate ∷ [])))
         host.old host.new) }
     ensures durable { OnOk result (IsDurable H.meaning host.new) }
-    ensures ran { Ran H.meaning HostError.Fault (FileBecomes journal_file (IsTorn place 1)) host.old host.new
-        result }
+    ensures ran { RanSyncing H.meaning 1 HostError.Fault (FileBecomes journal_file (IsTorn place 1)) host.old
+        host.new result }
 {
     host.write_at(JOURNAL_FILE, place, &[gate])?;
     host.sync()?;

@@ -1,10 +1,14 @@
 //! Laws of journals. Each is a function that does nothing: its contract is the law.
 
 ghost use Rattle.std.specs.Prelude.{◌≡◌, ◌⊎◌, ℕ, List, Contains, IsTrue};
-ghost use Rattle.nb_host.specs.Crashes.{AgreesOutside, ImagesFollow};
+ghost use Rattle.nb_host.specs.declared.host.Channel.{Channel};
+ghost use Rattle.nb_host.specs.Crashes.{AgreesOutside, ImagesFollow, Stays};
+ghost use Rattle.nb_host.specs.Image.{SaysPart};
 ghost use Rattle.nb_host.specs.Meaning.{Leads, IsDurable};
-ghost use Rattle.nb_journal.specs.Form.{Log, IsFresh, IsJournal, IsCleanJournal, IsDamaged};
-ghost use Rattle.nb_journal.specs.Images.{prepared, IsFreshNow, IsPrepared, IsReady, StaysFresh};
+ghost use Rattle.nb_journal.specs.declared.entry.Entry.{Entry};
+ghost use Rattle.nb_journal.specs.Counters.{counters_after, counters_of};
+ghost use Rattle.nb_journal.specs.Form.{Log, IsFresh, IsJournal, IsCleanJournal, IsDamaged, with_entry};
+ghost use Rattle.nb_journal.specs.Images.{prepared, SparesJournal, IsFreshNow, IsPrepared, IsReady, StaysFresh};
 ghost use Rattle.nb_journal.specs.Places.{journal_file, page_length, entry_length, entries_per_page, started_gate, entry_gate};
 
 use crate::form::{COUNTS, ENTRIES_PER_PAGE, ENTRY_LENGTH, JOURNAL_FILE, PAGE_LENGTH, STARTED};
@@ -41,18 +45,33 @@ pub fn law_fresh_alone()
         → IsJournal log file ⊎ IsDamaged place file → ⊥ }
 {}
 
-/// What the calls that write a journal need of its file stays through calls on other files: that no journal
-/// is started, that one is laid down, and that one is clean and durable.
+/// Each file is fresh, the journal of a log, or damaged at a place.
+pub fn law_every_file()
+    ensures { (file : List ℕ) → IsFresh file
+        ⊎ (((log : Log) × IsJournal log file) ⊎ ((place : ℕ) × IsDamaged place file)) }
+{}
+
+/// What a journal keeps of its log with one more entry is what it kept before, with that entry counted.
+pub fn law_counters()
+    ensures { (log : Log) (entry : Entry) → counters_after entry (counters_of log) ≡ counters_of (with_entry log entry) }
+{}
+
+/// What the calls that write a journal need of its file, that no journal is started, that one is laid down,
+/// and that one is clean and durable, stays through calls that spare the file: those on other files, a sync,
+/// and a say.
 pub fn law_kept<H: Host>()
-    ensures fresh { (files : List ℕ) (old new : H) → (Contains files journal_file → ⊥)
-        → Leads H.meaning (AgreesOutside files) old new
+    ensures fresh { (old new : H) → Leads H.meaning SparesJournal old new
         → IsFreshNow H.meaning old → IsFreshNow H.meaning new }
-    ensures prepared { (files : List ℕ) (log : Log) (old new : H) → (Contains files journal_file → ⊥)
-        → Leads H.meaning (AgreesOutside files) old new
+    ensures prepared { (log : Log) (old new : H) → Leads H.meaning SparesJournal old new
         → IsPrepared H.meaning log old → IsPrepared H.meaning log new }
-    ensures ready { (files : List ℕ) (log : Log) (old new : H) → (Contains files journal_file → ⊥)
-        → Leads H.meaning (AgreesOutside files) old new
+    ensures ready { (log : Log) (old new : H) → Leads H.meaning SparesJournal old new
         → IsReady H.meaning log old → IsReady H.meaning log new }
+    ensures others { (files : List ℕ) (old new : H) → (Contains files journal_file → ⊥)
+        → Leads H.meaning (AgreesOutside files) old new → Leads H.meaning SparesJournal old new }
+    ensures synced { (old new : H) → Leads H.meaning Stays old new
+        → Leads H.meaning SparesJournal old new }
+    ensures said { (channel : Channel) (bytes : List ℕ) (old new : H)
+        → Leads H.meaning (SaysPart channel bytes) old new → Leads H.meaning SparesJournal old new }
 {}
 
 /// What `prepare` says of its file is what `start_gate` needs, and what `start_gate` and `append` say is what

@@ -3,7 +3,7 @@
 //!
 //! `find` reads it; `prepare`, `start_gate` and `Journal::append` write it, so that a crash at any moment
 //! leaves it with or without the new entry. The meanings stand in `specs/`: `Form` is which file is which
-//! journal, and `Images` is what a crash may leave.
+//! journal, and `Images` is what the calls make of it, and what a crash may leave.
 #![tactic(auto)]
 
 mod entry;
@@ -21,7 +21,8 @@ pub use error::JournalError;
 pub use finding::{Opened, find};
 pub use journal::Journal;
 pub use laws::{
-    law_fresh_alone, law_kept, law_not_both, law_one_damage, law_one_journal, law_places, law_ready,
+    law_counters, law_every_file, law_fresh_alone, law_kept, law_not_both, law_one_damage,
+    law_one_journal, law_places, law_ready,
 };
 pub use ready::{Ready, prepare, start_gate};
 

@@ -1,15 +1,15 @@
 //! A journal that is to be started: it is laid down behind a shut gate, and then the gate opens.
 
-ghost use Rattle.std.specs.Prelude.{◌≡◌, ◌≤◌, [], ◌∷◌, length, IsTrue, IfOk, OnOk};
+ghost use Rattle.std.specs.Prelude.{◌≡◌, ◌+◌, ◌≤◌, [], ◌∷◌, length, IsTrue, IfOk, OnOk};
 ghost use Rattle.nb_model.specs.Limits.{most_bodies};
 ghost use Rattle.nb_model.specs.Valid.{AreInRange};
 ghost use Rattle.nb_host.specs.Crashes.{AgreesOutside, ImagesFollow};
-ghost use Rattle.nb_host.specs.Image.{FileBecomes, IsPartlyCut};
-ghost use Rattle.nb_host.specs.Meaning.{IsDurable, IsDurableFile, Ran};
+ghost use Rattle.nb_host.specs.Image.{FileBecomes, IsPartlyCut, IsTorn, overwritten};
+ghost use Rattle.nb_host.specs.Meaning.{IsDurable, IsDurableFile, RanSyncing};
 ghost use Rattle.nb_journal.specs.Counters.{counters_of, new_log};
 ghost use Rattle.nb_journal.specs.Form.{IsCleanJournal};
-ghost use Rattle.nb_journal.specs.Images.{prepared, IsFreshNow, IsPrepared, StaysFresh, Starts};
-ghost use Rattle.nb_journal.specs.Places.{journal_file, page_length};
+ghost use Rattle.nb_journal.specs.Images.{prepared, syncs_of_cut, IsFreshNow, IsPrepared, StaysFresh, Starts};
+ghost use Rattle.nb_journal.specs.Places.{journal_file, page_length, started_gate};
 
 use crate::form::{Heading, JOURNAL_FILE, PAGE_LENGTH, SHUT, STARTED, VERSION, page};
 use crate::journal::{Journal, open_gate};
@@ -52,8 +52,8 @@ pub fn prepare<H: Host>(
         → (H.meaning.contents host.new).file journal_file ≡ prepared (new_log params.now count time gone)) }
     ensures images { IsFreshNow H.meaning host.old
         → ImagesFollow H.meaning.crashes host.old host.new StaysFresh }
-    ensures ran { Ran H.meaning HostError.Fault (AgreesOutside (journal_file ∷ [])) host.old host.new
-        result }
+    ensures ran { RanSyncing H.meaning (syncs_of_cut ((H.meaning.contents host.old).file journal_file) + 1)
+        HostError.Fault (AgreesOutside (journal_file ∷ [])) host.old host.new result }
 {
     let heading = Heading {
         version: VERSION,
@@ -75,8 +75,8 @@ fn shorten<H: Host>(host: &mut H) -> Result<(), HostError>
         → length ((H.meaning.contents host.new).file journal_file) ≤ page_length) }
     ensures durable { OnOk result (IsDurableFile H.meaning journal_file host.old
         → IsDurableFile H.meaning journal_file host.new) }
-    ensures ran { Ran H.meaning HostError.Fault (FileBecomes journal_file (IsPartlyCut page_length))
-        host.old host.new result }
+    ensures ran { RanSyncing H.meaning (syncs_of_cut ((H.meaning.contents host.old).file journal_file))
+        HostError.Fault (FileBecomes journal_file (IsPartlyCut page_length)) host.old host.new result }
 {
     if host.len(JOURNAL_FILE)? <= PAGE_LENGTH {
         return Ok(());
@@ -93,11 +93,13 @@ pub fn start_gate<H: Host>(host: &mut H, ready: Ready) -> Result<Journal, HostEr
     ensures started { OnOk result (IsTrue H.meaning.tells
         → (H.meaning.contents host.old).file journal_file ≡ prepared ready
         → IsCleanJournal ready ((H.meaning.contents host.new).file journal_file)) }
+    ensures written { OnOk result (IsTrue H.meaning.tells → (H.meaning.contents host.new).file journal_file
+        ≡ overwritten 0 (started_gate ∷ []) ((H.meaning.contents host.old).file journal_file)) }
     ensures durable { OnOk result (IsDurable H.meaning host.new) }
     ensures images { IsPrepared H.meaning ready host.old
         → ImagesFollow H.meaning.crashes host.old host.new (Starts ready (H.meaning.contents host.old)) }
-    ensures ran { Ran H.meaning HostError.Fault (AgreesOutside (journal_file ∷ [])) host.old host.new
-        result }
+    ensures ran { RanSyncing H.meaning 2 HostError.Fault (FileBecomes journal_file (IsTorn 0 1)) host.old
+        host.new result }
 {
     let journal = Journal::begun(ready.heading);
     host.sync()?;

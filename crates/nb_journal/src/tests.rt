@@ -40,6 +40,15 @@ const TICK: [u8; 32] = [
     0, 0, 0, 0, 0, 0, 0, 0, 0, 0, 0, 0, 0, 0, 0, 0,
 ];
 
+/// The bytes of a journal with `LEG` and `TICK`.
+fn journal_bytes() -> [u8; 8192] {
+    let mut bytes = [0; 8192];
+    bytes[..88].copy_from_slice(&FRONT);
+    bytes[4096..4128].copy_from_slice(&LEG);
+    bytes[4128..4160].copy_from_slice(&TICK);
+    bytes
+}
+
 /// Adds an entry, where it is a lawful next one.
 fn add(host: &mut MemoryHost, journal: Journal, entry: Entry) -> Result<Journal, JournalError> {
     if !journal.allows(entry) {
@@ -92,16 +101,14 @@ fn writes_and_reads_bytes(rt: HostRuntime) -> Result<(), Fail> {
     assert_eq!(rt; (journal.target(), journal.gone()), (5, 0));
     assert_eq!(rt; (journal.count(), journal.begin_time()), (1, 0));
     assert_eq!(rt; journal.params(), PARAMS);
-    let mut bytes = [0; 8192];
-    bytes[..88].copy_from_slice(&FRONT);
-    bytes[4096..4128].copy_from_slice(&LEG);
-    bytes[4128..4160].copy_from_slice(&TICK);
-    assert_eq!(rt; host.bytes(FILE), bytes.as_slice());
+    assert_eq!(rt; host.bytes(FILE), journal_bytes().as_slice());
+    // Four calls of `prepare`, three of `start_gate`, four for each entry, and one that read an entry.
+    assert_eq!(rt; host.calls(), 16);
     Ok(())
 }
 
 /// Changes of a journal with `LEG` and `TICK`, each a byte's place and its value, and what is found then.
-const FILES: [(&[(usize, u8)], Result<Option<u64>, JournalError>); 16] = [
+const FILES: [(&[(usize, u8)], Result<Option<u64>, JournalError>); 17] = [
     (&[], Ok(Some(2))),
     // No journal is started.
     (&[(0, 0)], Ok(None)),
@@ -122,6 +129,7 @@ const FILES: [(&[(usize, u8)], Result<Option<u64>, JournalError>); 16] = [
     (&[(4128, 0x53)], Ok(Some(1))),
     // The leg leads nowhere, the tick is the second, and a byte of an entry isn't 0.
     (&[(4104, 0)], Err(JournalError::Damaged(4096))),
+    (&[(4098, 1)], Err(JournalError::Damaged(4096))),
     (&[(4136, 2)], Err(JournalError::Damaged(4128))),
     (&[(4159, 1)], Err(JournalError::Damaged(4128))),
 ];
@@ -129,10 +137,7 @@ const FILES: [(&[(usize, u8)], Result<Option<u64>, JournalError>); 16] = [
 #[test]
 fn finds_what_a_file_is(rt: HostRuntime) -> Result<(), Fail> {
     for (changes, want) in &FILES {
-        let mut bytes = [0; 8192];
-        bytes[..88].copy_from_slice(&FRONT);
-        bytes[4096..4128].copy_from_slice(&LEG);
-        bytes[4128..4160].copy_from_slice(&TICK);
+        let mut bytes = journal_bytes();
         for (place, value) in *changes {
             if *place < 8192 {
                 bytes[*place] = *value;
@@ -140,19 +145,29 @@ fn finds_what_a_file_is(rt: HostRuntime) -> Result<(), Fail> {
         }
         assert_eq!(rt; found_in(rt.alloc(), &bytes)?, *want, "{changes:?}");
     }
+    Ok(())
+}
+
+#[test]
+fn finds_what_a_short_file_is(rt: HostRuntime) -> Result<(), Fail> {
     assert_eq!(rt; found_in(rt.alloc(), &[0x53; 4096])?, Ok(None));
     assert_eq!(rt;
         found_in(rt.alloc(), &[0x53; 4097])?,
         Err(JournalError::Damaged(0))
     );
+    // Behind the header the page isn't whole.
+    let bytes = journal_bytes();
+    let found = found_in(rt.alloc(), bytes.get(..4097).unwrap_or(&[]))?;
+    assert_eq!(rt; found, Err(JournalError::Damaged(4096)));
     Ok(())
 }
 
-const OUTCOMES: [Outcome; 5] = [
+const OUTCOMES: [Outcome; 6] = [
     Outcome::Kept,
     Outcome::Lost,
     Outcome::Filled(b'S'),
     Outcome::Filled(b'G'),
+    Outcome::Filled(b'F'),
     Outcome::Filled(0),
 ];
 
@@ -162,23 +177,23 @@ const FRESH: Option<u64> = None;
 /// How many entries are found where so many host calls pass, the next fails, and a crash has one of
 /// `OUTCOMES`: calls 1 to 4 are those of `prepare`, 5 to 7 of `start_gate`, 8 to 11 add a leg, and 12 to 15
 /// a tick.
-const CRASHES: [[Option<u64>; 5]; 16] = [
-    [FRESH, FRESH, FRESH, FRESH, FRESH],
-    [FRESH, FRESH, FRESH, FRESH, FRESH],
-    [FRESH, FRESH, FRESH, FRESH, FRESH],
-    [FRESH, FRESH, FRESH, FRESH, FRESH],
-    [FRESH, FRESH, FRESH, FRESH, FRESH],
-    [FRESH, FRESH, Some(0), FRESH, FRESH],
-    [Some(0), FRESH, Some(0), FRESH, FRESH],
-    [Some(0), Some(0), Some(0), Some(0), Some(0)],
-    [Some(0), Some(0), Some(0), Some(0), Some(0)],
-    [Some(0), Some(0), Some(0), Some(1), Some(0)],
-    [Some(1), Some(0), Some(0), Some(1), Some(0)],
-    [Some(1), Some(1), Some(1), Some(1), Some(1)],
-    [Some(1), Some(1), Some(1), Some(1), Some(1)],
-    [Some(1), Some(1), Some(1), Some(2), Some(1)],
-    [Some(2), Some(1), Some(1), Some(2), Some(1)],
-    [Some(2), Some(2), Some(2), Some(2), Some(2)],
+const CRASHES: [[Option<u64>; 6]; 16] = [
+    [FRESH, FRESH, FRESH, FRESH, FRESH, FRESH],
+    [FRESH, FRESH, FRESH, FRESH, FRESH, FRESH],
+    [FRESH, FRESH, FRESH, FRESH, FRESH, FRESH],
+    [FRESH, FRESH, FRESH, FRESH, FRESH, FRESH],
+    [FRESH, FRESH, FRESH, FRESH, FRESH, FRESH],
+    [FRESH, FRESH, Some(0), FRESH, FRESH, FRESH],
+    [Some(0), FRESH, Some(0), FRESH, FRESH, FRESH],
+    [Some(0), Some(0), Some(0), Some(0), Some(0), Some(0)],
+    [Some(0), Some(0), Some(0), Some(0), Some(0), Some(0)],
+    [Some(0), Some(0), Some(0), Some(1), Some(0), Some(0)],
+    [Some(1), Some(0), Some(0), Some(1), Some(0), Some(0)],
+    [Some(1), Some(1), Some(1), Some(1), Some(1), Some(1)],
+    [Some(1), Some(1), Some(1), Some(1), Some(1), Some(1)],
+    [Some(1), Some(1), Some(1), Some(2), Some(1), Some(1)],
+    [Some(2), Some(1), Some(1), Some(2), Some(1), Some(1)],
+    [Some(2), Some(2), Some(2), Some(2), Some(2), Some(2)],
 ];
 
 /// Starts a journal and adds a leg and a tick.
@@ -204,7 +219,7 @@ fn found_after(
 #[test]
 fn crashes_leave_whole_entries(rt: HostRuntime) -> Result<(), Fail> {
     for calls in 0..16usize {
-        for which in 0..5usize {
+        for which in 0..6usize {
             let want = CRASHES[calls][which];
             let after = found_after(rt.alloc(), calls as u64, OUTCOMES[which])?;
             assert_eq!(rt; after, Ok(want), "{which} after {calls}");
@@ -213,8 +228,54 @@ fn crashes_leave_whole_entries(rt: HostRuntime) -> Result<(), Fail> {
     Ok(())
 }
 
+/// Prepares a journal over a file of these bytes, of which so many host calls pass. Answers what is found
+/// after the crash, and how many calls there were.
+fn found_over(
+    alloc: Global,
+    bytes: &[u8],
+    calls: u64,
+    outcome: Outcome,
+) -> Result<(Result<Option<u64>, JournalError>, u64), Fail> {
+    let mut host = MemoryHost::new(alloc);
+    host.with_file(FILE, bytes)?;
+    host.fuse(calls);
+    let _ = prepare(&mut host, &PARAMS, 1, 0, 0);
+    let made = host.calls();
+    host.crash(outcome)?;
+    Ok((found(&mut host), made))
+}
+
+/// Files in which no journal is started, and how many calls `prepare` makes over each: the length, page 0, a
+/// sync and the page of entries, and where the file is longer, a cut and a sync before page 0.
+const OVER: [(&[u8], u64); 3] = [(&[], 4), (&[b'S'; 4096], 4), (&[b'G'; 8192], 6)];
+
+#[test]
+fn none_is_started_by_prepare(rt: HostRuntime) -> Result<(), Fail> {
+    for (bytes, calls) in OVER {
+        for passed in 0..7u64 {
+            for outcome in OUTCOMES {
+                let (after, made) = found_over(rt.alloc(), bytes, passed, outcome)?;
+                assert_eq!(rt; after, Ok(FRESH), "after {passed}");
+                assert_eq!(rt; made, calls.min(passed + 1), "after {passed}");
+            }
+        }
+    }
+    Ok(())
+}
+
+/// How many entries are found where the last of a page is added to 127: its bytes are written by call 1, the
+/// next page by call 2, and its gate by call 4.
+const PAGE_END: [[u64; 6]; 6] = [
+    [127, 127, 127, 127, 127, 127],
+    [127, 127, 127, 127, 127, 127],
+    [127, 127, 127, 127, 127, 127],
+    [127, 127, 127, 128, 127, 127],
+    [128, 127, 127, 128, 127, 127],
+    [128, 128, 128, 128, 128, 128],
+];
+
 /// Starts a journal of 127 entries, the last but one of its page, and adds one more, of which so many host
-/// calls pass. Answers what is found after the crash.
+/// calls pass. Answers what is found after the crash, and whether the next page is zeros.
 fn found_at_page_end(
     alloc: Global,
     calls: u64,
@@ -235,14 +296,14 @@ fn found_at_page_end(
 
 #[test]
 fn a_page_is_begun_before_the_last_gate(rt: HostRuntime) -> Result<(), Fail> {
-    for (calls, outcome, want) in [
-        (3, Outcome::Filled(b'G'), Some(128)),
-        (3, Outcome::Filled(b'F'), Some(127)),
-        (3, Outcome::Lost, Some(127)),
-        (5, Outcome::Lost, Some(128)),
-    ] {
-        let after = found_at_page_end(rt.alloc(), calls, outcome)?;
-        assert_eq!(rt; after, Ok((want, true)), "{calls}");
+    for calls in 0..6usize {
+        for which in 0..6usize {
+            let want = PAGE_END[calls][which];
+            let after = found_at_page_end(rt.alloc(), calls as u64, OUTCOMES[which])?;
+            let (entries, zeros) = after.unwrap_or((FRESH, false));
+            assert_eq!(rt; entries, Some(want), "{which} after {calls}");
+            assert!(rt; zeros || want == 127, "{which} after {calls}");
+        }
     }
     Ok(())
 }

@@ -1,4 +1,4 @@
-use Rattle.std.proofs.Common.{◌≡◌, ℕ, ◌<◌, inl, List, length, refl, sym, ap, subst, ◌∙◌, arith, rules}
+use Rattle.std.proofs.Common.{◌≡◌, ℕ, ◌<◌, inl, length, refl, sym, ap, subst, ◌∙◌, arith, rules}
 use Rattle.std.proofs.lemmas.List.{length-replicate}
 use Rattle.nb_host.specs.Image.{Image}
 use Rattle.nb_host.proofs.Callers.{stays_both, stays_contents}
@@ -24,7 +24,7 @@ returns-then-got-lt-PAGE_SIZE-clause-ran g c = record {
   count = search rules;
   rose = search rules;
   spared = search rules;
-  refused = search rules;
+  tally = search rules;
 }
 
 pub returns-then-page-ne-STARTED-clause-ran : goal.returns-then-page-ne-STARTED-clause-ran
@@ -33,7 +33,7 @@ returns-then-page-ne-STARTED-clause-ran g c = record {
   count = search rules;
   rose = search rules;
   spared = search rules;
-  refused = search rules;
+  tally = search rules;
 }
 
 pub returns-in-None-clause-found : goal.returns-in-None-clause-found
@@ -80,7 +80,7 @@ returns-in-Ok-clause-ran g c = record {
   count = search rules;
   rose = search rules;
   spared = search rules;
-  refused = search rules;
+  tally = search rules;
 }
 
 pub returns-in-Err-clause-found : goal.returns-in-Err-clause-found
@@ -107,5 +107,5 @@ returns-in-Err-clause-ran g c = record {
   count = search rules;
   rose = search rules;
   spared = search rules;
-  refused = search rules;
+  tally = search rules;
 }

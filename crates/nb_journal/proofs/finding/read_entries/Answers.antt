@@ -15,7 +15,7 @@ entries-init g c = record {
   within = λ on. absurd (on (omega (arith, c.requires)));
   leads = leads_none g.H.Host.meaning c.args.host.now (λ image. refl);
   faults = refl;
-  refused = refl;
+  tally = refl;
 }
 
 pub entries-preserved : goal.entries-preserved
@@ -49,7 +49,7 @@ entries-preserved g c =
           (within_on n (subst (λ (k : ℕ). k % 128 ≢ 0) more on) within);
       leads = stays_both c.entries.invariant.leads c.in-Ok.ensures.ran.leads;
       faults = search rules;
-      refused = c.in-Ok.ensures.ran.refused ∙ c.entries.invariant.refused;
+      tally = c.in-Ok.ensures.ran.tally ∙ c.entries.invariant.tally;
     }
 
 pub entries-smaller : goal.entries-smaller

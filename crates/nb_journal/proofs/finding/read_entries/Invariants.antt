@@ -1,4 +1,4 @@
-use Rattle.std.proofs.Common.{◌≡◌, ◌≢◌, ℕ, ◌+◌, ◌-◌, ◌%◌, ◌≤◌, List, length, IsTrue}
+use Rattle.std.proofs.Common.{◌≡◌, ◌≢◌, ℕ, ◌-◌, ◌%◌, ◌≤◌, List, length, IsTrue}
 use Rattle.nb_host.specs.Crashes.{Stays}
 use Rattle.nb_host.specs.Meaning.{Leads}
 use Rattle.nb_journal.specs.Places.{place_of, page_end}
@@ -14,7 +14,7 @@ invariant-entries g l = record {
   within : l.journal.entries % 128 ≢ 0 → place_of (page_end l.journal.entries) ≤ l.len;
   leads : Leads g.H.Host.meaning Stays l.fn.host l.host;
   faults : g.H.Host.meaning.faults l.host ≡ g.H.Host.meaning.faults l.fn.host;
-  refused : g.H.Host.meaning.refused_says l.host ≡ g.H.Host.meaning.refused_says l.fn.host;
+  tally : g.H.Host.meaning.tally l.host ≡ g.H.Host.meaning.tally l.fn.host;
 }
 
 abbrev pub decreases-entries : goal.decreases-entries

@@ -1,4 +1,4 @@
-use Rattle.nb_journal.proofs.Headings.{StandsAt, heading_read}
+use Rattle.nb_journal.proofs.Headings.{heading_read}
 use Rattle.nb_journal.proofs.heading.parse_heading.Goals as goal
 
 pub returns : goal.returns

@@ -1,8 +1,9 @@
-use Rattle.std.proofs.Common.{ℕ, ◌+◌, ◌≡◌, List, [], ◌∷◌, length, take, drop, replicate, ap, sym, ◌∙◌, arith, rules, subst}
+use Rattle.std.proofs.Common.{ℕ, ◌+◌, List, take, drop, replicate, ap, ◌∙◌, arith, rules, subst}
 use Rattle.std.proofs.lemmas.List.{length-replicate}
+use Rattle.nb_host.specs.Image.{overwritten}
 use Rattle.nb_host.proofs.Callers.{leads_more, leads_again}
 use Rattle.nb_journal.specs.Places.{place_of, IsZeros}
-use Rattle.nb_journal.proofs.Laid.{rest_is, length-rest, slot_step, page_step, slot_written, slot_stays, zeros_written, zeros_are}
+use Rattle.nb_journal.proofs.Laid.{rest_is, length-rest, slot_step, page_step, slot_written, slot_stays, zeros_written, zeros_are, begun-last, begun-within}
 use Rattle.nb_journal.proofs.Steps.{lays_both}
 use Rattle.nb_journal.proofs.journal.lay.Goals as goal
 
@@ -15,7 +16,7 @@ returns-in_err-write_at-clause-ran g c =
       count = search rules;
       rose = search rules;
       spared = search rules;
-      refused = search rules;
+      tally = search rules;
     }
 
 pub returns-then-entries-clause-laid : goal.returns-then-entries-clause-laid
@@ -36,7 +37,7 @@ returns-then-entries-clause-ran g c =
       count = search rules;
       rose = search rules;
       spared = search rules;
-      refused = search rules;
+      tally = search rules;
     }
 
 pub returns-in_err-write_at-2-clause-ran : goal.returns-in_err-write_at-2-clause-ran
@@ -51,7 +52,7 @@ returns-in_err-write_at-2-clause-ran g c =
       count = search rules;
       rose = search rules;
       spared = search rules;
-      refused = search rules;
+      tally = search rules;
     }
 
 pub returns-clause-laid : goal.returns-clause-laid
@@ -84,5 +85,26 @@ returns-clause-ran g c =
       count = search rules;
       rose = search rules;
       spared = search rules;
-      refused = search rules;
+      tally = search rules;
     }
+
+pub returns-then-entries-clause-written : goal.returns-then-entries-clause-written
+returns-then-entries-clause-written g c = λ tells.
+    let old = (g.H.Host.meaning.contents c.args.host.now).file 2 in
+    let rest = rest_is c.args.entry c.spell-bytes.result c.spell-bytes.ensures in
+    (c.in_ok-write_at.ensures.written tells).file
+    ∙ ap (λ (a : ℕ). overwritten (a + 1) (take 31 (drop 1 c.spell-bytes.result)) old) c.place_of.ensures
+    ∙ ap (λ (w : List ℕ). overwritten (place_of c.args.entries + 1) w old) rest
+    ∙ begun-within c.args.entries _ c.if-entries.true
+
+pub returns-clause-written : goal.returns-clause-written
+returns-clause-written g c = λ tells.
+    let old = (g.H.Host.meaning.contents c.args.host.now).file 2 in
+    let rest = rest_is c.args.entry c.spell-bytes.result c.spell-bytes.ensures in
+    let slot = (c.in_ok-write_at.ensures.written tells).file
+    ∙ ap (λ (a : ℕ). overwritten (a + 1) (take 31 (drop 1 c.spell-bytes.result)) old) c.place_of.ensures
+    ∙ ap (λ (w : List ℕ). overwritten (place_of c.args.entries + 1) w old) rest in
+    (c.in_ok-write_at-2.ensures.written tells).file
+    ∙ ap (λ (a : ℕ). overwritten a (replicate 4096 0) ((g.H.Host.meaning.contents c.write_at.new.self).file 2)) c.place_of-2.ensures
+    ∙ ap (λ (w : List ℕ). overwritten (place_of (c.args.entries + 1)) (replicate 4096 0) w) slot
+    ∙ begun-last c.args.entries _ c.if-entries.false

@@ -1,5 +1,4 @@
-use Rattle.std.proofs.Common.{ℕ, ◌≡◌, List, [], ◌∷◌, length, ap, subst, refl, ◌∙◌, arith, rules}
-use Rattle.std.proofs.lemmas.List.{length-replicate}
+use Rattle.std.proofs.Common.{length, ap, ◌∙◌, rules}
 use Rattle.nb_host.proofs.Callers.{leads_more, leads_after, leads_again, becomes_agrees, stays_after, stays_contents}
 use Rattle.nb_journal.specs.Counters.{new_log}
 use Rattle.nb_journal.proofs.Texts.{length-header}
@@ -17,12 +16,14 @@ returns-in_err-shorten-clause-ran g c = record {
   rose = search rules;
   spared = search rules;
   refused = search rules;
+  synced = search rules;
+  at_most = search rules;
 }
 
 pub returns-in_err-write_at-clause-images : goal.returns-in_err-write_at-clause-images
 returns-in_err-write_at-clause-images g c = λ now.
     header_fresh g.H.Host.meaning (ap length c.page.ensures ∙ length-header 0 (new_log c.args.params.now c.args.count c.args.time c.args.gone))
-    (shorten_fresh now c.in_ok-shorten.ensures.ran.leads.images) (c.in_ok-shorten.ensures.durable now.durable) c.in_ok-shorten.ensures.short
+    (shorten_fresh now c.in_ok-shorten.ensures.ran.leads.images) (c.in_ok-shorten.ensures.durable now.images) c.in_ok-shorten.ensures.short
     c.in_err-write_at.ensures.ran.leads.images
 
 pub returns-in_err-write_at-clause-ran : goal.returns-in_err-write_at-clause-ran
@@ -34,13 +35,15 @@ returns-in_err-write_at-clause-ran g c = record {
   rose = search rules;
   spared = search rules;
   refused = search rules;
+  synced = search rules;
+  at_most = search rules;
 }
 
 pub returns-in_err-sync-clause-images : goal.returns-in_err-sync-clause-images
 returns-in_err-sync-clause-images g c = λ now.
     stays_after
     (header_fresh g.H.Host.meaning (ap length c.page.ensures ∙ length-header 0 (new_log c.args.params.now c.args.count c.args.time c.args.gone))
-    (shorten_fresh now c.in_ok-shorten.ensures.ran.leads.images) (c.in_ok-shorten.ensures.durable now.durable) c.in_ok-shorten.ensures.short
+    (shorten_fresh now c.in_ok-shorten.ensures.ran.leads.images) (c.in_ok-shorten.ensures.durable now.images) c.in_ok-shorten.ensures.short
     c.in_ok-write_at.ensures.ran.leads.images)
     c.in_err-sync.ensures.ran.leads.images
 
@@ -54,6 +57,8 @@ returns-in_err-sync-clause-ran g c = record {
   rose = search rules;
   spared = search rules;
   refused = search rules;
+  synced = search rules;
+  at_most = search rules;
 }
 
 pub returns-in_err-write_at-2-clause-images : goal.returns-in_err-write_at-2-clause-images
@@ -61,7 +66,7 @@ returns-in_err-write_at-2-clause-images g c = λ now.
     page_fresh g.H.Host.meaning
     (stays_after
     (header_fresh g.H.Host.meaning (ap length c.page.ensures ∙ length-header 0 (new_log c.args.params.now c.args.count c.args.time c.args.gone))
-    (shorten_fresh now c.in_ok-shorten.ensures.ran.leads.images) (c.in_ok-shorten.ensures.durable now.durable) c.in_ok-shorten.ensures.short
+    (shorten_fresh now c.in_ok-shorten.ensures.ran.leads.images) (c.in_ok-shorten.ensures.durable now.images) c.in_ok-shorten.ensures.short
     c.in_ok-write_at.ensures.ran.leads.images)
     c.in_ok-sync.ensures.ran.leads.images)
     c.in_ok-sync.ensures.durable
@@ -80,6 +85,8 @@ returns-in_err-write_at-2-clause-ran g c = record {
   rose = search rules;
   spared = search rules;
   refused = search rules;
+  synced = search rules;
+  at_most = search rules;
 }
 
 pub returns-clause-laid : goal.returns-clause-laid
@@ -92,7 +99,7 @@ returns-clause-images g c = λ now.
     page_fresh g.H.Host.meaning
     (stays_after
     (header_fresh g.H.Host.meaning (ap length c.page.ensures ∙ length-header 0 (new_log c.args.params.now c.args.count c.args.time c.args.gone))
-    (shorten_fresh now c.in_ok-shorten.ensures.ran.leads.images) (c.in_ok-shorten.ensures.durable now.durable) c.in_ok-shorten.ensures.short
+    (shorten_fresh now c.in_ok-shorten.ensures.ran.leads.images) (c.in_ok-shorten.ensures.durable now.images) c.in_ok-shorten.ensures.short
     c.in_ok-write_at.ensures.ran.leads.images)
     c.in_ok-sync.ensures.ran.leads.images)
     c.in_ok-sync.ensures.durable
@@ -111,4 +118,6 @@ returns-clause-ran g c = record {
   rose = search rules;
   spared = search rules;
   refused = search rules;
+  synced = search rules;
+  at_most = search rules;
 }

@@ -1,11 +1,12 @@
-use Rattle.std.proofs.Common.{ℕ, ◌≡◌, List, [], ◌∷◌, length, ap, subst, refl, sym, ◌∙◌, arith, rules}
-use Rattle.nb_host.proofs.Callers.{leads_more, leads_after, leads_before, becomes_agrees, agrees_itself, stays_contents}
-use Rattle.nb_host.specs.Crashes.{AgreesOutside}
-use Rattle.nb_host.specs.Image.{Image}
+use Rattle.std.proofs.Common.{◌≡◌, length, ap, subst, sym, ◌∙◌, rules}
+use Rattle.nb_host.proofs.Callers.{leads_more, leads_before, becomes_itself, becomes_same, torn_by_nothing, stays_contents}
+use Rattle.nb_host.specs.Image.{Image, FileBecomes, IsTorn}
 use Rattle.nb_journal.specs.Form.{Log, IsLawful}
 use Rattle.nb_journal.proofs.Starting.{start_syncs, start_opens, written_start}
-use Rattle.nb_journal.proofs.Steps.{agrees_then}
 use Rattle.nb_journal.proofs.ready.start_gate.Goals as goal
+
+gate_itself : (image : Image) → FileBecomes 2 (IsTorn 0 1) image image
+gate_itself image = becomes_itself 2 (IsTorn 0 1) image (torn_by_nothing 0 1 (image.file 2))
 
 pub returns-in_err-sync-clause-images : goal.returns-in_err-sync-clause-images
 returns-in_err-sync-clause-images g c = λ ready. start_syncs ready c.in_err-sync.ensures.ran.leads.images
@@ -13,11 +14,13 @@ returns-in_err-sync-clause-images g c = λ ready. start_syncs ready c.in_err-syn
 pub returns-in_err-sync-clause-ran : goal.returns-in_err-sync-clause-ran
 returns-in_err-sync-clause-ran g c = record {
   leads = leads_more c.in_err-sync.ensures.ran.leads
-      (λ start image same. subst (λ (i : Image). AgreesOutside (2 ∷ []) start i) (sym same) (agrees_itself (2 ∷ []) start));
+      (λ start image same. becomes_same 2 (IsTorn 0 1) same (torn_by_nothing 0 1 (start.file 2)));
   count = search rules;
   rose = search rules;
   spared = search rules;
   refused = search rules;
+  synced = search rules;
+  at_most = search rules;
 }
 
 pub returns-in_err-open_gate-clause-images : goal.returns-in_err-open_gate-clause-images
@@ -29,12 +32,13 @@ returns-in_err-open_gate-clause-images g c = λ ready.
 
 pub returns-in_err-open_gate-clause-ran : goal.returns-in_err-open_gate-clause-ran
 returns-in_err-open_gate-clause-ran g c = record {
-  leads = leads_before (λ image. agrees_itself (2 ∷ []) image) c.in_ok-sync.ensures.ran.leads
-      (leads_more c.in_err-open_gate.ensures.ran.leads (λ start image step. becomes_agrees step));
+  leads = leads_before (λ image. gate_itself image) c.in_ok-sync.ensures.ran.leads c.in_err-open_gate.ensures.ran.leads;
   count = search rules;
   rose = search rules;
   spared = search rules;
   refused = search rules;
+  synced = search rules;
+  at_most = search rules;
 }
 
 pub returns-clause-started : goal.returns-clause-started
@@ -53,10 +57,11 @@ returns-clause-images g c = λ ready.
 
 pub returns-clause-ran : goal.returns-clause-ran
 returns-clause-ran g c = record {
-  leads = leads_before (λ image. agrees_itself (2 ∷ []) image) c.in_ok-sync.ensures.ran.leads
-      (leads_more c.in_ok-open_gate.ensures.ran.leads (λ start image step. becomes_agrees step));
+  leads = leads_before (λ image. gate_itself image) c.in_ok-sync.ensures.ran.leads c.in_ok-open_gate.ensures.ran.leads;
   count = search rules;
   rose = search rules;
   spared = search rules;
   refused = search rules;
+  synced = search rules;
+  at_most = search rules;
 }

@@ -1,8 +1,8 @@
-use Rattle.std.proofs.Common.{ℕ, ◌≡◌, List, [], ◌∷◌, length, ap, subst, arith, rules}
-use Rattle.nb_host.proofs.Callers.{leads_more, leads_after, becomes_agrees, stays_after}
+use Rattle.std.proofs.Common.{◌≡◌, length, ap, subst, arith, rules}
+use Rattle.nb_host.proofs.Callers.{leads_after, stays_after}
 use Rattle.nb_journal.specs.Counters.{Counters}
 use Rattle.nb_journal.specs.Entries.{IsNext}
-use Rattle.nb_journal.proofs.Appending.{append_lays, append_opens, append_adds, append_leads}
+use Rattle.nb_journal.proofs.Appending.{append_lays, append_opens, append_adds, append_leads, laying_leads}
 use Rattle.nb_journal.proofs.journal.Journal.append.Goals as goal
 
 pub returns-in_err-lay-clause-images : goal.returns-in_err-lay-clause-images
@@ -13,11 +13,13 @@ returns-in_err-lay-clause-images g c = λ log answers ready.
 
 pub returns-in_err-lay-clause-ran : goal.returns-in_err-lay-clause-ran
 returns-in_err-lay-clause-ran g c = record {
-  leads = leads_more c.in_err-lay.ensures.ran.leads (λ start image step. becomes_agrees step);
+  leads = laying_leads c.self.inside.entries _ (ap (λ (k : Counters). k.entries) c.self.view_is) c.in_err-lay.ensures.ran.leads;
   count = search rules;
   rose = search rules;
   spared = search rules;
   refused = search rules;
+  synced = search rules;
+  at_most = search rules;
 }
 
 pub returns-in_err-sync-clause-images : goal.returns-in_err-sync-clause-images
@@ -29,12 +31,14 @@ returns-in_err-sync-clause-images g c = λ log answers ready.
 
 pub returns-in_err-sync-clause-ran : goal.returns-in_err-sync-clause-ran
 returns-in_err-sync-clause-ran g c = record {
-  leads = leads_more (leads_after c.in_ok-lay.ensures.ran.leads c.in_err-sync.ensures.ran.leads)
-      (λ start image step. becomes_agrees step);
+  leads = laying_leads c.self.inside.entries _ (ap (λ (k : Counters). k.entries) c.self.view_is)
+      (leads_after c.in_ok-lay.ensures.ran.leads c.in_err-sync.ensures.ran.leads);
   count = search rules;
   rose = search rules;
   spared = search rules;
   refused = search rules;
+  synced = search rules;
+  at_most = search rules;
 }
 
 pub returns-in_err-open_gate-clause-images : goal.returns-in_err-open_gate-clause-images
@@ -48,11 +52,14 @@ returns-in_err-open_gate-clause-images g c = λ log answers ready.
 
 pub returns-in_err-open_gate-clause-ran : goal.returns-in_err-open_gate-clause-ran
 returns-in_err-open_gate-clause-ran g c = record {
-  leads = append_leads c.in_ok-lay.ensures.ran.leads c.in_ok-sync.ensures.ran.leads c.in_err-open_gate.ensures.ran.leads;
+  leads = append_leads c.self.inside.entries _ (ap (λ (k : Counters). k.entries) c.self.view_is) c.place_of.ensures
+      c.in_ok-lay.ensures.ran.leads c.in_ok-sync.ensures.ran.leads c.in_err-open_gate.ensures.ran.leads;
   count = search rules;
   rose = search rules;
   spared = search rules;
   refused = search rules;
+  synced = search rules;
+  at_most = search rules;
 }
 
 pub returns-clause-added : goal.returns-clause-added
@@ -75,9 +82,12 @@ returns-clause-images g c = λ log answers ready.
 
 pub returns-clause-ran : goal.returns-clause-ran
 returns-clause-ran g c = record {
-  leads = append_leads c.in_ok-lay.ensures.ran.leads c.in_ok-sync.ensures.ran.leads c.in_ok-open_gate.ensures.ran.leads;
+  leads = append_leads c.self.inside.entries _ (ap (λ (k : Counters). k.entries) c.self.view_is) c.place_of.ensures
+      c.in_ok-lay.ensures.ran.leads c.in_ok-sync.ensures.ran.leads c.in_ok-open_gate.ensures.ran.leads;
   count = search rules;
   rose = search rules;
   spared = search rules;
   refused = search rules;
+  synced = search rules;
+  at_most = search rules;
 }

@@ -1,11 +1,8 @@
-use Rattle.std.proofs.Common.{◌≡◌, ℕ, ◌<◌, List, length, IsTrue, Result, Err, refl, sym, ap, ◌∙◌, arith}
+use Rattle.std.proofs.Common.{◌≡◌, ℕ, ◌<◌, length, sym, ap, ◌∙◌, arith}
 use Rattle.nb_host.specs.Image.{readable}
 use Rattle.nb_host.specs.Meaning.{asked_of_none}
-use Rattle.nb_journal.specs.declared.entry.Entry.{Entry}
-use Rattle.nb_journal.specs.declared.entry.Entry.TheVariants.{Leg}
 use Rattle.nb_journal.specs.Counters.{Counters}
 use Rattle.nb_journal.specs.Form.{entry_bytes}
-use Rattle.nb_journal.specs.Places.{place_of}
 use Rattle.nb_journal.proofs.Indexed.{entry_has, slot_whole, slot_bytes, entry_got}
 use Rattle.nb_journal.proofs.journal.Journal.entry.Goals as goal
 
