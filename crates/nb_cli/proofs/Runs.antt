@@ -1,23 +1,31 @@
--- What a run of `once` has changed, by its steps.
-use Rattle.std.proofs.Common.{◌≡◌, ◌⊎◌, inl, inr, ℕ, List, ◌++◌, take, ap, sym, subst, ◌∙◌, arith}
+-- What a run of `once` has changed, by its steps, in what reads and in the images.
+use Rattle.std.proofs.Common.{◌≡◌, ◌≢◌, ◌≤◌, ◌⊎◌, inl, inr, ℕ, List, ◌++◌, take, refl, ap, sym, subst, ◌∙◌, arith, IsTrue, IsOk, Result, Ok, Err, rules, ◌+◌}
 use Rattle.std.proofs.lemmas.List.{append-nil}
 use Rattle.nb_model.specs.Leapfrog.{escaped_count}
 use Rattle.nb_host.specs.declared.host.Channel.{Channel}
 use Rattle.nb_host.specs.declared.host.Channel.TheVariants as channels
+use Rattle.nb_host.specs.declared.host.HostError.{HostError}
+use Rattle.nb_host.specs.declared.host.HostError.TheVariants.{Fault, NoMemory}
+use Rattle.nb_host.specs.Crashes.{Stays}
 use Rattle.nb_host.specs.Image.{Image, FileBecomes, SaysPart}
+use Rattle.nb_host.specs.Meaning.{HostModel, Leads, Spoke, RanSyncing, IsDurable, Tally}
+use Rattle.nb_host.proofs.Callers.{goes_on, leads_more, leads_before, stopped_after, ok_is_no_error}
 use Rattle.nb_format.specs.Lines.{once_line}
 use Rattle.nb_format.specs.Snapshot.{IsSnapshot}
 use Rattle.nb_format.specs.Writer.{IsFinishedAs}
 use Rattle.nb_cli.specs.declared.once_command.Done.{Done}
+use Rattle.nb_cli.specs.declared.refusal.Refusal.{Refusal}
+use Rattle.nb_cli.specs.declared.refusal.Refusal.TheVariants as refusal
 use Rattle.nb_cli.specs.Once.{once_file, Start, ticks_to, list_at, IsReady}
-use Rattle.nb_cli.specs.Done.{TellsOf, BecomesAny}
-use Rattle.nb_cli.specs.Answer.{SaidFrontOf, IsWithin}
+use Rattle.nb_cli.specs.Done.{TellsOf, BecomesAny, MayWrite}
+use Rattle.nb_cli.specs.Refusal.{refusal_by_host, NeedsNoCause}
+use Rattle.nb_cli.specs.Answer.{SaidFrontOf, IsWithin, OnceTouches, CountsRun, SyncsRun, once_syncs, run_syncs}
 
 Out≢Err : ◌≡◌ {A = Channel} channels.Err channels.Out → ⊥
 Out≢Err same = cc
 
 -- the line of a start at the target
-abbrev line_at : ℕ → Start → List ℕ
+abbrev pub line_at : ℕ → Start → List ℕ
 line_at target start = once_line target (ticks_to target start) (escaped_count (list_at target start))
 
 -- the line that was made of the answer is that of the start
@@ -27,51 +35,256 @@ line_of-answer {target} {start} {done} line is tells =
     is ∙ ap (λ (t : ℕ). once_line t done.ticks done.gone) tells.time ∙ ap (λ (k : ℕ). once_line target k done.gone) tells.ticks
     ∙ ap (λ (n : ℕ). once_line target (ticks_to target start) n) tells.gone
 
+-- What `once` may have written.
+
+pub others_still : {files : ℕ → List ℕ} {target : ℕ} {old now : Image} → MayWrite files target old now → (number : ℕ)
+    → number ≢ once_file → now.file number ≡ old.file number
+others_still (inl same) number spared = ap (λ (image : Image). image.file number) same
+others_still (inr some) number spared = some.2.others number spared
+
+pub said_still : {files : ℕ → List ℕ} {target : ℕ} {old now : Image} → MayWrite files target old now → now.said ≡ old.said
+said_still (inl same) = ap (λ (image : Image). image.said) same
+said_still (inr some) = some.2.said
+
 -- only the file was changed
-pub within_file : {P : List ℕ → List ℕ → Type 0} {target : ℕ} {start : Start} {old now : Image}
+within_file : {P : List ℕ → List ℕ → Type 0} {target : ℕ} {start : Start} {old now : Image}
     → FileBecomes once_file P old now → IsWithin target start old now
-within_file {old = old} {now = now} changed =
-    let out : now.said channels.Out ≡ old.said channels.Out = ap (λ (f : Channel → List ℕ). f channels.Out) changed.said in
+within_file {old = old} changed =
+    let out = ap (λ (f : Channel → List ℕ). f channels.Out) changed.said in
     record {
       others = changed.others;
       out = (0, omega arith, out ∙ sym (append-nil (old.said channels.Out)));
       said_last = inl out;
-      err = ap (λ (f : Channel → List ℕ). f channels.Err) changed.said;
     }
 
--- the file was written, and a front of the line said
-within_said : {target : ℕ} {start : Start} {old middle now : Image} (line : List ℕ) → line ≡ line_at target start
-    → FileBecomes once_file (IsFinishedAs (list_at target start) target) old middle → SaysPart channels.Out line middle now
-    → IsWithin target start old now
-within_said {target} {start} {old} {middle} {now} line is written part =
-    let P : List ℕ → Type 0 = λ text. SaidFrontOf text (old.said channels.Out) (now.said channels.Out) in
-    let Q : (ℕ → List ℕ) → Type 0 = λ files. IsSnapshot (files once_file) (list_at target start) target in
-    let out : middle.said channels.Out ≡ old.said channels.Out = ap (λ (f : Channel → List ℕ). f channels.Out) written.said in
-    record {
-      others = λ number spared. ap (λ (f : ℕ → List ℕ). f number) part.2.files ∙ written.others number spared;
-      out = subst P is (part.0, part.1, part.2.said ∙ ap (λ (said : List ℕ). said ++ take part.0 line) out);
-      said_last = inr (subst Q (sym part.2.files) written.file);
-      err = part.2.others channels.Err Out≢Err ∙ ap (λ (f : Channel → List ℕ). f channels.Err) written.said;
-    }
+pub touched_by_file : {files : ℕ → List ℕ} {target : ℕ} {old now : Image} → MayWrite files target old now
+    → OnceTouches files target old now
+touched_by_file (inl same) =
+    record { touches = inl same; err = ap (λ (image : Image). image.said channels.Err) same }
+touched_by_file (inr some) = record {
+  touches = inr (some.0, some.1, within_file some.2);
+  err = ap (λ (f : Channel → List ℕ). f channels.Err) some.2.said;
+}
 
--- what a run of `once` may have changed, from what it left after its sync
-abbrev pub IsTouched : ℕ → Image → Image → Type 0
-IsTouched target old now = (now ≡ old) ⊎ ((start : Start) × IsReady old.file target start × IsWithin target start old now)
+-- The line is to be said: the file is the snapshot.
+pub record IsToSay (files : ℕ → List ℕ) (target : ℕ) (line : List ℕ) (now : Image) : Type 0 where
+  pub start : Start
+  pub ready : IsReady files target start
+  pub line_is : line ≡ line_at target start
+  pub snapshot : IsSnapshot (now.file once_file) (list_at target start) target
 
-pub touched_by_file : {target : ℕ} {old middle now : Image} → middle ≡ old
-    → (now ≡ middle) ⊎ ((start : Start) × IsReady middle.file target start × FileBecomes once_file BecomesAny middle now)
-    → IsTouched target old now
-touched_by_file same (inl none) = inl (none ∙ same)
-touched_by_file {target} {old} {middle} {now} same (inr some) =
-    let P : Image → Type 0 = λ image. IsReady image.file target some.0 in
-    let Q : Image → Type 0 = λ image. FileBecomes once_file BecomesAny image now in
-    inr (some.0, subst P same some.1, within_file (subst Q same some.2))
-
-pub touched_by_line : {target : ℕ} {old middle written now : Image} {done : Done} (line : List ℕ) → middle ≡ old
+pub to_say : {target : ℕ} {old middle now : Image} {done : Done} (line : List ℕ) → middle ≡ old
     → ((start : Start) × IsReady middle.file target start × TellsOf target start done
-    × FileBecomes once_file (IsFinishedAs (list_at target start) target) middle written)
-    → line ≡ once_line done.time done.ticks done.gone → SaysPart channels.Out line written now → IsTouched target old now
-touched_by_line {target} {old} {middle} {written} {now} {done} line same some is part =
-    let P : Image → Type 0 = λ image. IsReady image.file target some.0 in
-    let Q : Image → Type 0 = λ image. FileBecomes once_file (IsFinishedAs (list_at target some.0) target) image written in
-    inr (some.0, subst P same some.1, within_said line (line_of-answer line is some.2) (subst Q same some.3) part)
+    × FileBecomes once_file (IsFinishedAs (list_at target start) target) middle now)
+    → line ≡ once_line done.time done.ticks done.gone → IsToSay old.file target line now
+to_say {target = target} line same done is = record {
+  start = done.0;
+  ready = subst (λ (i : Image). IsReady i.file target done.0) same done.1;
+  line_is = line_of-answer line is done.2;
+  snapshot = done.3.file;
+}
+
+-- a front of it was said
+touched_by_line : {files : ℕ → List ℕ} {target : ℕ} {old middle now : Image} (line : List ℕ) → MayWrite files target old middle
+    → IsToSay files target line middle → SaysPart channels.Out line middle now → OnceTouches files target old now
+touched_by_line {target = target} {old = old} {middle = middle} {now = now} line wrote tells part =
+    let P : List ℕ → Type 0 = λ text. SaidFrontOf text (old.said channels.Out) (now.said channels.Out) in
+    let Q : (ℕ → List ℕ) → Type 0 = λ files. IsSnapshot (files once_file) (list_at target tells.start) target in
+    let out = ap (λ (f : Channel → List ℕ). f channels.Out) (said_still wrote) in
+    record {
+      touches = inr (
+        tells.start,
+        tells.ready,
+        record {
+          others = λ number spared. ap (λ (f : ℕ → List ℕ). f number) part.2.files ∙ others_still wrote number spared;
+          out = subst P tells.line_is
+              (part.0, part.1, part.2.said ∙ ap (λ (said : List ℕ). said ++ take part.0 line) out);
+          said_last = inr (subst Q (sym part.2.files) tells.snapshot);
+        },
+      );
+      err = part.2.others channels.Err Out≢Err ∙ ap (λ (f : Channel → List ℕ). f channels.Err) (said_still wrote);
+    }
+
+-- Over a host.
+
+-- so far nothing was written
+pub leads_none_written : {H : Type 0} {m : HostModel H} {files : ℕ → List ℕ} {target : ℕ} {old new : H} → Leads m Stays old new
+    → Leads m (MayWrite files target) old new
+leads_none_written stays = leads_more stays (λ start image same. inl same)
+
+-- the file is written where `once` can be done
+pub leads_written : {H : Type 0} {m : HostModel H} {files : ℕ → List ℕ} {target : ℕ} {old middle new : H} → Leads m Stays old middle
+    → (IsTrue m.tells → (start : Start) × IsReady files target start)
+    → Leads m (FileBecomes once_file BecomesAny) middle new → Leads m (MayWrite files target) old new
+leads_written {m = m} {files = files} {target = target} {middle = middle} {new = new} stays ready wrote =
+    let later : Leads m (MayWrite files target) middle new = record {
+      contents = λ told. let start = ready told in inr (start.0, start.1, wrote.contents told);
+      images = record {
+        follows = λ honest.
+            let start = ready (m.tells_if_honest honest) in
+            (leads_more {T = MayWrite files target} wrote (λ before after becomes. inr (start.0, start.1, becomes))).images.follows honest;
+      };
+    } in
+    leads_before (λ image. inl refl) stays later
+
+-- the files are those from before calls that change nothing
+pub leads_from : {H : Type 0} {m : HostModel H} {target : ℕ} {old middle new : H} → m.contents middle ≡ m.contents old
+    → Leads m (MayWrite (m.contents middle).file target) middle new
+    → Leads m (MayWrite (m.contents old).file target) middle new
+leads_from {m = m} {target = target} {middle = middle} {new = new} same leads =
+    subst (λ (i : Image). Leads m (MayWrite i.file target) middle new) same leads
+
+-- behind the first sync
+pub leads_synced : {H : Type 0} {m : HostModel H} {files : ℕ → List ℕ} {target : ℕ} {old middle new : H} → Leads m Stays old middle
+    → Leads m (MayWrite files target) middle new → Leads m (MayWrite files target) old new
+leads_synced synced wrote = leads_before (λ image. inl refl) synced wrote
+
+pub leads_file : {H : Type 0} {m : HostModel H} {files : ℕ → List ℕ} {target : ℕ} {old new : H}
+    → Leads m (MayWrite files target) old new → Leads m (OnceTouches files target) old new
+leads_file wrote = leads_more wrote (λ start image step. touched_by_file step)
+
+-- The line is said once the file is durable, so a front of it stands in no image in which the file isn't the snapshot.
+pub leads_line : {H : Type 0} {m : HostModel H} {files : ℕ → List ℕ} {target : ℕ} {old middle new : H} (line : List ℕ)
+    → Leads m (MayWrite files target) old middle → IsDurable m middle
+    → (IsTrue m.tells → IsToSay files target line (m.contents middle)) → Leads m (SaysPart channels.Out line) middle new
+    → Leads m (OnceTouches files target) old new
+leads_line {m = m} {files = files} {target = target} line wrote durable tells said = record {
+  contents = λ told. touched_by_line line (wrote.contents told) (tells told) (said.contents told);
+  images = goes_on wrote.images said.images (λ start image step. touched_by_file step)
+      (λ start between image honest one left two.
+      touched_by_line line one
+      (subst (λ (i : Image). IsToSay files target line i) (sym (durable between honest left)) (tells (m.tells_if_honest honest)))
+      two);
+}
+
+-- What a run owes to the counts.
+
+-- what the program makes of how its line was said
+abbrev pub said_answer : Result (Unit {0}) HostError → Result (Unit {0}) Refusal
+said_answer (Ok tt) = Ok tt
+said_answer (Err error) = Err (refusal_by_host error)
+
+-- a device fault or want of memory, behind so many syncs at most
+pub syncs_free : (why : Refusal) (before behind : ℕ) → NeedsNoCause why → behind ≤ before + run_syncs → SyncsRun (Err why) before behind
+syncs_free why before behind (inl is) few = subst (λ w. SyncsRun (Err w) before behind) (sym is) few
+syncs_free why before behind (inr is) few = subst (λ w. SyncsRun (Err w) before behind) (sym is) few
+
+-- a refusal by a cause, behind one sync
+pub syncs_once : (why : Refusal) (before behind : ℕ) → why ≢ refusal.Words → behind ≡ before + 1 → SyncsRun (Err why) before behind
+syncs_once refusal.Words before behind other one = absurd (other refl)
+syncs_once (refusal.Params _) before behind other one = one
+syncs_once (refusal.Snapshot _) before behind other one = one
+syncs_once (refusal.TooHeavy _ _) before behind other one = one
+syncs_once (refusal.TickLimit _) before behind other one = one
+syncs_once (refusal.TooMany _) before behind other one = one
+syncs_once refusal.Device before behind other one = omega (arith, one)
+syncs_once refusal.NoMemory before behind other one = omega (arith, one)
+
+free_or_not : (why : Refusal) → NeedsNoCause why ⊎ (NeedsNoCause why → ⊥)
+free_or_not refusal.Device = inl (inl refl)
+free_or_not refusal.NoMemory = inl (inr refl)
+free_or_not refusal.Words = inr (λ free. never free) where
+  never : (refusal.Words ≡ refusal.Device) ⊎ (refusal.Words ≡ refusal.NoMemory) → ⊥
+  never (inl is) = cc
+  never (inr is) = cc
+free_or_not (refusal.Params e) = inr (λ free. never free) where
+  never : (refusal.Params e ≡ refusal.Device) ⊎ (refusal.Params e ≡ refusal.NoMemory) → ⊥
+  never (inl is) = cc
+  never (inr is) = cc
+free_or_not (refusal.Snapshot e) = inr (λ free. never free) where
+  never : (refusal.Snapshot e ≡ refusal.Device) ⊎ (refusal.Snapshot e ≡ refusal.NoMemory) → ⊥
+  never (inl is) = cc
+  never (inr is) = cc
+free_or_not (refusal.TooHeavy g m) = inr (λ free. never free) where
+  never : (refusal.TooHeavy g m ≡ refusal.Device) ⊎ (refusal.TooHeavy g m ≡ refusal.NoMemory) → ⊥
+  never (inl is) = cc
+  never (inr is) = cc
+free_or_not (refusal.TickLimit n) = inr (λ free. never free) where
+  never : (refusal.TickLimit n ≡ refusal.Device) ⊎ (refusal.TickLimit n ≡ refusal.NoMemory) → ⊥
+  never (inl is) = cc
+  never (inr is) = cc
+free_or_not (refusal.TooMany n) = inr (λ free. never free) where
+  never : (refusal.TooMany n ≡ refusal.Device) ⊎ (refusal.TooMany n ≡ refusal.NoMemory) → ⊥
+  never (inl is) = cc
+  never (inr is) = cc
+
+-- the first sync failed
+pub counts_unsynced : {H T : Type 0} {m : HostModel H} {by : Image → Image → Type 0} {old new : H}
+    {result : Result T HostError} {error : HostError} → RanSyncing m 1 Fault by old new result → result ≡ Err error
+    → CountsRun m old new (Err (refusal_by_host error))
+counts_unsynced {old = old} {new = new} {error = error} ran is = record {
+  count = ran.count;
+  rose = λ err. ran.rose (is ∙ ap Err (by_device error err));
+  spared = λ other. ran.spared (λ err. other (to_device error (sym is ∙ err)));
+  refused = λ told. ap (λ (f : Channel → ℕ). f channels.Err) ran.refused;
+  heard = λ told ok. absurd (search rules);
+  syncs = λ told. syncs_free (refusal_by_host error) _ _ (free_by_host error) (omega (arith, ran.at_most told));
+} where
+  by_device : (error : HostError) → ◌≡◌ {A = Result (Unit {0}) Refusal} (Err (refusal_by_host error)) (Err refusal.Device) → error ≡ Fault
+  by_device Fault err = refl
+  by_device NoMemory err = cc
+
+  to_device : {T : Type 0} (error : HostError) → ◌≡◌ {A = Result T HostError} (Err error) (Err Fault)
+      → ◌≡◌ {A = Result (Unit {0}) Refusal} (Err (refusal_by_host error)) (Err refusal.Device)
+  to_device Fault err = refl
+  to_device NoMemory err = cc
+
+  free_by_host : (error : HostError) → NeedsNoCause (refusal_by_host error)
+  free_by_host Fault = inl refl
+  free_by_host NoMemory = inr refl
+
+-- `once` refused, behind the first sync
+pub counts_refused : {H S T : Type 0} {m : HostModel H} {one two : Image → Image → Type 0} {old middle new : H}
+    {first : Result S HostError} {result : Result T Refusal} {why : Refusal} → IsOk first
+    → RanSyncing m 1 Fault one old middle first → RanSyncing m once_syncs refusal.Device two middle new result
+    → result ≡ Err why → why ≢ refusal.Words → ((NeedsNoCause why → ⊥) → m.tally new ≡ m.tally middle)
+    → CountsRun m old new (Err why)
+counts_refused {m = m} {old = old} {middle = middle} {new = new} {why = why} ok before after is other unsynced =
+    let same = before.spared (ok_is_no_error ok) in
+    record {
+      count = subst (λ n. n ≤ m.faults new) same after.count;
+      rose = λ err. stopped_after same (after.rose (is ∙ ap Err (inside err)));
+      spared = λ never. after.spared (λ err. never (ap Err (inside (sym is ∙ err)))) ∙ same;
+      refused = λ told. ap (λ (f : Channel → ℕ). f channels.Err) (after.refused ∙ before.refused);
+      heard = λ told fine. absurd (search rules);
+      syncs = λ told. elim (free_or_not why) [
+        | inl free ↦ syncs_free why _ _ free (omega (arith, before.at_most told, after.at_most told))
+        | inr cause ↦ syncs_once why _ _ other
+            (ap (λ (t : Tally). t.syncs) (unsynced cause) ∙ before.synced told ok)
+      ];
+    } where
+      inside : {T : Type 0} {a b : Refusal} → ◌≡◌ {A = Result T Refusal} (Err a) (Err b) → a ≡ b
+      inside same = cc
+
+-- a line on Out behind all syncs
+pub counts_said : {H T E : Type 0} {m : HostModel H} {fault : E} {by : Image → Image → Type 0} {old middle new : H}
+    {result : Result T E} {line : List ℕ} {answer : Result (Unit {0}) HostError}
+    → RanSyncing m run_syncs fault by old middle result → IsOk result → Spoke m channels.Out line middle new answer
+    → CountsRun m old new (said_answer answer)
+counts_said {m = m} {new = new} {answer = answer} ran ok spoke =
+    let spared = ran.spared (ok_is_no_error ok) in
+    record {
+      count = subst (λ n. n ≤ m.faults new) spared spoke.count;
+      rose = λ err. stopped_after spared (spoke.rose (device answer err));
+      spared = λ never. spoke.spared (λ err. never (ap said_answer err)) ∙ spared;
+      refused = λ told. (spoke.refused told).others channels.Err Out≢Err
+          ∙ ap (λ (f : Channel → ℕ). f channels.Err) ran.refused;
+      heard = λ told fine. (spoke.refused told).spared (went answer fine)
+          ∙ ap (λ (f : Channel → ℕ). f channels.Out) ran.refused;
+      syncs = λ told. counted answer _ _ (spoke.syncs ∙ ran.synced told ok);
+    } where
+      device : (answer : Result (Unit {0}) HostError) → said_answer answer ≡ Err refusal.Device → answer ≡ Err Fault
+      device (Ok tt) err = cc
+      device (Err Fault) err = refl
+      device (Err NoMemory) err = cc
+
+      went : (answer : Result (Unit {0}) HostError) → IsOk (said_answer answer) → IsOk answer
+      went (Ok tt) fine = refl
+      went (Err Fault) fine = absurd (search rules)
+      went (Err NoMemory) fine = absurd (search rules)
+
+      counted : (answer : Result (Unit {0}) HostError) (before behind : ℕ) → behind ≡ before + run_syncs
+          → SyncsRun (said_answer answer) before behind
+      counted (Ok tt) before behind all = all
+      counted (Err Fault) before behind all = omega (arith, all)
+      counted (Err NoMemory) before behind all = omega (arith, all)

@@ -1,47 +1,53 @@
--- How a line was said on Err.
-use Rattle.std.proofs.Common.{◌≡◌, ◌⊎◌, inl, inr, ℕ, ◌+◌, ◌-◌, ◌^◌, ◌≤◌, List, ◌++◌, take, refl, ap, subst, ◌∙◌, arith, IsTrue, Result, Ok, Err, rules}
-use Rattle.nb_host.specs.declared.host.Channel.TheVariants as channels
+-- How a refusal was told on Err.
+use Rattle.std.proofs.Common.{◌≡◌, ◌⊎◌, inl, inr, ℕ, refl, arith, Result, Ok, Err}
 use Rattle.nb_host.specs.declared.host.HostError.{HostError}
 use Rattle.nb_host.specs.declared.host.HostError.TheVariants.{Fault, NoMemory}
-use Rattle.nb_host.specs.Faults.{Rose}
-use Rattle.nb_host.specs.Image.{Image}
-use Rattle.nb_host.specs.Meaning.{HostModel, Spoke}
-use Rattle.nb_host.proofs.Callers.{rose_from_less}
 use Rattle.nb_cli.specs.declared.refusal.Refusal.{Refusal}
 use Rattle.nb_cli.specs.declared.refusal.Refusal.TheVariants as refusal
-use Rattle.nb_cli.specs.Answer.{SaidFrontOf, WasSaid, faults_behind}
+use Rattle.nb_cli.specs.Refusal.{status_of, refusal_by_host}
+use Rattle.nb_cli.specs.Answer.{Yields, status_behind}
 
--- what a refused say on Err leaves
-abbrev IsLeft : {H : Type 0} → HostModel H → List ℕ → ℕ → H → H → Type 0
-IsLeft m line faults old new =
-    ((m.contents new).said channels.Err ≡ (m.contents old).said channels.Err)
-    ⊎ (SaidFrontOf line ((m.contents old).said channels.Err) ((m.contents new).said channels.Err) × Rose faults (m.faults new))
+-- what a failed say turns the status into
+yields_by : (error : HostError) → Yields (status_of (refusal_by_host error))
+yields_by Fault = inl refl
+yields_by NoMemory = inr refl
 
-left-after : {H : Type 0} (m : HostModel H) (line : List ℕ) (least : ℕ) (old middle new : H)
-    → (m.contents middle).said channels.Err ≡ (m.contents old).said channels.Err → least ≤ m.faults middle
-    → IsLeft m line (m.faults middle) middle new → IsLeft m line least old new
-left-after m line least old middle new same few (inl nothing) = inl (nothing ∙ same)
-left-after m line least old middle new same few (inr front) =
-    inr ((front.0.0, front.0.1, front.0.2 ∙ ap (λ (before : List ℕ). before ++ take front.0.0 line) same), rose_from_less few front.1)
+-- The status is the refusal's, or one of the two that each yields to.
+pub behind_answer : (why : Refusal) (answer : Result (Unit {0}) HostError)
+    → (status_behind why answer ≡ status_of why) ⊎ Yields (status_behind why answer)
+behind_answer refusal.Words (Ok tt) = inl refl
+behind_answer (refusal.Params _) (Ok tt) = inl refl
+behind_answer (refusal.Snapshot _) (Ok tt) = inl refl
+behind_answer (refusal.TooHeavy _ _) (Ok tt) = inl refl
+behind_answer (refusal.TickLimit _) (Ok tt) = inl refl
+behind_answer (refusal.TooMany _) (Ok tt) = inl refl
+behind_answer refusal.Device (Ok tt) = inl refl
+behind_answer refusal.NoMemory (Ok tt) = inl refl
+behind_answer refusal.Words (Err error) = inr (yields_by error)
+behind_answer (refusal.Params _) (Err error) = inr (yields_by error)
+behind_answer (refusal.Snapshot _) (Err error) = inr (yields_by error)
+behind_answer (refusal.TooHeavy _ _) (Err error) = inr (yields_by error)
+behind_answer (refusal.TickLimit _) (Err error) = inr (yields_by error)
+behind_answer (refusal.TooMany _) (Err error) = inr (yields_by error)
+behind_answer refusal.Device (Err error) = inl refl
+behind_answer refusal.NoMemory (Err error) = inl refl
 
--- behind a run that said nothing on Err
-pub was_said-after : {H : Type 0} (m : HostModel H) (line : List ℕ) (least : ℕ) (old middle new : H)
-    → (m.contents middle).said channels.Err ≡ (m.contents old).said channels.Err
-    → m.refused_says middle channels.Err ≡ m.refused_says old channels.Err → least ≤ m.faults middle
-    → WasSaid m line (m.faults middle) middle new → WasSaid m line least old new
-was_said-after m line least old middle new same refused few (inl whole) =
-    inl (whole.0 ∙ ap (λ (before : List ℕ). before ++ line) same, whole.1 ∙ refused)
-was_said-after m line least old middle new same refused few (inr part) =
-    let P : ℕ → Type 0 = λ count. Rose count (m.refused_says new channels.Err) in
-    inr (subst P refused part.0, left-after m line least old middle new same few part.1)
-
--- the least count of faults behind a run
-pub faults_behind-run : (why : Refusal) (before behind : ℕ) → before ≤ behind → (why ≡ refusal.Device → Rose before behind) → faults_behind why before ≤ behind
-faults_behind-run refusal.Device before behind more rose = rose refl
-faults_behind-run refusal.Words before behind more rose = more
-faults_behind-run (refusal.Params _) before behind more rose = more
-faults_behind-run (refusal.Snapshot _) before behind more rose = more
-faults_behind-run (refusal.TooHeavy _ _) before behind more rose = more
-faults_behind-run (refusal.TickLimit _) before behind more rose = more
-faults_behind-run (refusal.TooMany _) before behind more rose = more
-faults_behind-run refusal.NoMemory before behind more rose = more
+-- A device fault and want of memory stay what they are.
+pub behind_kept : (why : Refusal) (answer : Result (Unit {0}) HostError) → Yields (status_of why)
+    → status_behind why answer ≡ status_of why
+behind_kept refusal.Device (Ok tt) yields = refl
+behind_kept refusal.NoMemory (Ok tt) yields = refl
+behind_kept refusal.Device (Err error) yields = refl
+behind_kept refusal.NoMemory (Err error) yields = refl
+behind_kept refusal.Words answer (inl is) = absurd (omega arith)
+behind_kept refusal.Words answer (inr is) = absurd (omega arith)
+behind_kept (refusal.Params _) answer (inl is) = absurd (omega arith)
+behind_kept (refusal.Params _) answer (inr is) = absurd (omega arith)
+behind_kept (refusal.Snapshot _) answer (inl is) = absurd (omega arith)
+behind_kept (refusal.Snapshot _) answer (inr is) = absurd (omega arith)
+behind_kept (refusal.TooHeavy _ _) answer (inl is) = absurd (omega arith)
+behind_kept (refusal.TooHeavy _ _) answer (inr is) = absurd (omega arith)
+behind_kept (refusal.TickLimit _) answer (inl is) = absurd (omega arith)
+behind_kept (refusal.TickLimit _) answer (inr is) = absurd (omega arith)
+behind_kept (refusal.TooMany _) answer (inl is) = absurd (omega arith)
+behind_kept (refusal.TooMany _) answer (inr is) = absurd (omega arith)

@@ -1,8 +1,9 @@
 -- What the command `once` answers, and what it leaves.
-use Rattle.std.specs.Prelude.{◌≡◌, ℕ, List, ⊤}
+use Rattle.std.specs.Prelude.{◌≡◌, ◌⊎◌, ℕ, List, ⊤}
 use Rattle.nb_model.specs.Leapfrog.{escaped_count}
 use Rattle.nb_cli.specs.declared.once_command.Done.{Done}
-use Rattle.nb_cli.specs.Once.{Start, ticks_to, list_at}
+use Rattle.nb_host.specs.Image.{Image, FileBecomes}
+use Rattle.nb_cli.specs.Once.{once_file, Start, ticks_to, list_at, IsReady}
 
 -- The answer tells the target, the ticks from the start to it, and how many bodies have left the box there.
 pub record TellsOf (target : ℕ) (start : Start) (done : Done) : Type 0 where
@@ -13,3 +14,9 @@ pub record TellsOf (target : ℕ) (start : Start) (done : Done) : Type 0 where
 -- A file may become anything.
 abbrev pub BecomesAny : List ℕ → List ℕ → Type 0
 BecomesAny old new = ⊤
+
+-- What a call of `once` may have changed at some moment, where the files were these: nothing, or its own file, where it can
+-- be done.
+abbrev pub MayWrite : (ℕ → List ℕ) → ℕ → Image → Image → Type 0
+MayWrite files target old new =
+    (new ≡ old) ⊎ ((start : Start) × IsReady files target start × FileBecomes once_file BecomesAny old new)

@@ -8,11 +8,12 @@ ghost use Rattle.nb_model.specs.Legs.{directions_to};
 ghost use Rattle.nb_model.specs.Limits.{most_bodies};
 ghost use Rattle.nb_model.specs.Valid.{AreInRange, IsValidBody, IsValidBodies};
 ghost use Rattle.nb_host.specs.Image.{FileBecomes};
-ghost use Rattle.nb_host.specs.Meaning.{Over, Counts};
+ghost use Rattle.nb_host.specs.Meaning.{Over, RanSyncing, IsDurable};
 ghost use Rattle.nb_format.specs.Writer.{IsFinishedAs};
 ghost use Rattle.nb_cli.specs.Refusal.{NeedsNoCause, IsSayable};
 ghost use Rattle.nb_cli.specs.Once.{once_file, most_once_bodies, Start, ticks_to, list_at, start_refusal as refusal_of_start, once_refusal as refusal_of_once, IsReady, IsRefused};
-ghost use Rattle.nb_cli.specs.Done.{TellsOf, BecomesAny};
+ghost use Rattle.nb_cli.specs.Answer.{once_syncs};
+ghost use Rattle.nb_cli.specs.Done.{TellsOf, BecomesAny, MayWrite};
 
 use crate::init_file::{INIT_FILE, read_bodies, skim};
 use crate::params_file::parameters;
@@ -52,11 +53,12 @@ pub fn once<H: Host>(alloc: Global, host: &mut H, target: u64) -> Result<Done, R
     ensures words { result ≢ Err Refusal.Words }
     ensures sayable { IfErr result IsSayable }
 
-    // What it leaves: all as it was, where it doesn't come so far as to write.
-    ensures touched { IsTrue H.meaning.tells → (H.meaning.contents host.new ≡ H.meaning.contents host.old)
-        ⊎ ((start : Start) × IsReady (H.meaning.contents host.old).file target start
-        × FileBecomes once_file BecomesAny (H.meaning.contents host.old) (H.meaning.contents host.new)) }
-    ensures counts { Counts H.meaning Refusal.Device host.old host.new result }
+    // What it leaves at each moment: all as it was, until it comes so far as to write.
+    ensures durable { OnOk result (IsDurable H.meaning host.new) }
+    ensures unsynced { IfErr result (λ why. (NeedsNoCause why → ⊥)
+        → H.meaning.tally host.new ≡ H.meaning.tally host.old) }
+    ensures ran { RanSyncing H.meaning once_syncs Refusal.Device
+        (MayWrite (H.meaning.contents host.old).file target) host.old host.new result }
 {
     let params = parameters(alloc, host)?;
     let reader = SnapReader::begin(host, INIT_FILE)?;
@@ -178,8 +180,9 @@ fn write_bodies<H: Host>(host: &mut H, bodies: &[Body], time: u64) -> Result<(),
     requires count { length bodies.now ≤ most_bodies }
     ensures written { OnOk result
         (Over H.meaning (FileBecomes once_file (IsFinishedAs bodies.now time)) host.old host.new) }
-    ensures others { Over H.meaning (FileBecomes once_file BecomesAny) host.old host.new }
-    ensures counts { Counts H.meaning HostError.Fault host.old host.new result }
+    ensures durable { OnOk result (IsDurable H.meaning host.new) }
+    ensures ran { RanSyncing H.meaning once_syncs HostError.Fault (FileBecomes once_file BecomesAny)
+        host.old host.new result }
 {
     host.cut(ONCE_FILE, 0)?;
     host.sync()?;

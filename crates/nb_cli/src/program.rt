@@ -1,18 +1,13 @@
 //! The top call, which does all that the program does.
 
-ghost use Rattle.std.specs.Prelude.{◌≡◌, ◌≢◌, ◌⊎◌, ℕ, ◌≤◌, ◌↔◌, IsTrue, OnOk, IfErr, Err, List, ◌++◌, map, Contains};
-ghost use Rattle.nb_model.specs.Leapfrog.{escaped_count};
-ghost use Rattle.nb_host.specs.declared.host.Channel.TheVariants as channels;
-ghost use Rattle.nb_host.specs.Faults.{Rose};
-ghost use Rattle.nb_host.specs.Image.{Says, SaysPart};
-ghost use Rattle.nb_host.specs.Meaning.{Over};
-ghost use Rattle.nb_format.specs.Lines.{once_line as line_of_once};
-ghost use Rattle.nb_format.specs.Snapshot.{IsSnapshot};
+ghost use Rattle.std.specs.Prelude.{◌≡◌, ◌≢◌, ◌⊎◌, ℕ, ◌↔◌, IsTrue, OnOk, IfErr, Err, map, Contains};
+ghost use Rattle.nb_host.specs.Crashes.{Stays};
+ghost use Rattle.nb_host.specs.Meaning.{Leads, IsDurable};
 ghost use Rattle.nb_cli.specs.declared.refusal.Refusal.{Refusal};
 ghost use Rattle.nb_cli.specs.Words.{IsOnce, IsNoCommand};
-ghost use Rattle.nb_cli.specs.Refusal.{status_of, refusal_line, NeedsNoCause, IsSayable};
-ghost use Rattle.nb_cli.specs.Once.{once_file, Start, ticks_to, list_at, IsReady, IsRefused};
-ghost use Rattle.nb_cli.specs.Answer.{statuses, Yields, ComesWhere, HasCause, HasCauseOf, IsDone, IsWithin, SaidFrontOf, IsAnswer, MayBeSaid, CountsRun, WasSaid, faults_behind};
+ghost use Rattle.nb_cli.specs.Refusal.{NeedsNoCause, IsSayable};
+ghost use Rattle.nb_cli.specs.Once.{Start, IsReady, IsRefused};
+ghost use Rattle.nb_cli.specs.Answer.{statuses, Yields, ComesWhere, HasCause, HasCauseOf, IsDone, IsUntouched, Touches, CountsRun, HasBegun, HasBegunOrNot, OnceBegins, HasDone, WasTold, WasRefused};
 
 use crate::once_command::once;
 use crate::refusal::Refusal;
@@ -32,48 +27,20 @@ pub fn nbody<H: Host>(alloc: Global, words: &[&str], host: &mut H) -> u8
     ensures causes { (status : ℕ) → IsTrue H.meaning.tells → status ≢ 0 → (Yields status → ⊥)
         → ComesWhere status result
         (HasCauseOf (map (λ w. w.now) words.now) (H.meaning.contents host.old).file status) }
-    ensures device { result ≡ 11 → Rose (H.meaning.faults host.old) (H.meaning.faults host.new) }
-    ensures spared { result ≡ 0 → H.meaning.faults host.new ≡ H.meaning.faults host.old }
     ensures complete { (target : ℕ) (start : Start) → IsOnce (map (λ w. w.now) words.now) target
         → IsTrue H.meaning.tells → IsReady (H.meaning.contents host.old).file target start
         → (result ≡ 0) ⊎ Yields result }
 
-    // What `once` does, and what a refusal leaves.
-    ensures done { result ≡ 0 → IsTrue H.meaning.tells
-        → (target : ℕ) × (start : Start) × IsOnce (map (λ w. w.now) words.now) target
-        × IsReady (H.meaning.contents host.old).file target start
-        × IsDone target start (H.meaning.contents host.old) (H.meaning.contents host.new) }
-    ensures files { (number : ℕ) → IsTrue H.meaning.tells → number ≢ once_file
-        → (H.meaning.contents host.new).file number ≡ (H.meaning.contents host.old).file number }
+    // What the command does, and what a refusal is and leaves.
+    ensures done { result ≡ 0 → HasDone H.meaning (map (λ w. w.now) words.now) host.old host.new }
+    ensures refused { result ≢ 0 → WasRefused H.meaning (map (λ w. w.now) words.now) host.old host.new result }
     ensures untouched { (why : Refusal) → IsTrue H.meaning.tells
         → HasCause (map (λ w. w.now) words.now) (H.meaning.contents host.old).file why
-        → (H.meaning.contents host.new).file ≡ (H.meaning.contents host.old).file }
+        → IsUntouched (H.meaning.contents host.old) (H.meaning.contents host.new) }
 
-    // What is said.
-    ensures out { (target : ℕ) (start : Start) → IsOnce (map (λ w. w.now) words.now) target
-        → IsTrue H.meaning.tells → IsReady (H.meaning.contents host.old).file target start
-        → SaidFrontOf (line_of_once target (ticks_to target start) (escaped_count (list_at target start)))
-        ((H.meaning.contents host.old).said channels.Out) ((H.meaning.contents host.new).said channels.Out) }
-    ensures said_last { (target : ℕ) (start : Start) → IsOnce (map (λ w. w.now) words.now) target
-        → IsTrue H.meaning.tells → IsReady (H.meaning.contents host.old).file target start
-        → ((H.meaning.contents host.new).said channels.Out ≡ (H.meaning.contents host.old).said channels.Out)
-        ⊎ IsSnapshot ((H.meaning.contents host.new).file once_file) (list_at target start) target }
-    ensures silent { (why : Refusal) → IsTrue H.meaning.tells
-        → HasCause (map (λ w. w.now) words.now) (H.meaning.contents host.old).file why
-        → (H.meaning.contents host.new).said channels.Out ≡ (H.meaning.contents host.old).said channels.Out }
-    ensures err { IsTrue H.meaning.tells → result ≢ 0
-        → (Rose (H.meaning.refused_says host.old channels.Err) (H.meaning.refused_says host.new channels.Err) → ⊥)
-        → (why : Refusal)
-        × IsAnswer (map (λ w. w.now) words.now) (H.meaning.contents host.old).file result why
-        × ((H.meaning.contents host.new).said channels.Err
-        ≡ (H.meaning.contents host.old).said channels.Err ++ refusal_line why) }
-    ensures err_part { IsTrue H.meaning.tells → result ≢ 0
-        → (why : Refusal) × MayBeSaid (map (λ w. w.now) words.now) (H.meaning.contents host.old).file result why
-        × WasSaid H.meaning (refusal_line why) (faults_behind why (H.meaning.faults host.old)) host.old host.new }
-    ensures turned { IsTrue H.meaning.tells → (Yields result → ⊥)
-        → H.meaning.refused_says host.new channels.Err ≡ H.meaning.refused_says host.old channels.Err }
-
-    ensures faults { H.meaning.faults host.old ≤ H.meaning.faults host.new }
+    // What reads, and what a crash leaves, at each moment.
+    ensures leads { Leads H.meaning
+        (Touches (map (λ w. w.now) words.now) (H.meaning.contents host.old).file) host.old host.new }
 {
     match run(alloc, words, host) {
         Ok(()) => DONE,
@@ -91,10 +58,9 @@ fn run<H: Host>(alloc: Global, words: &[&str], host: &mut H) -> Result<(), Refus
         → (target : ℕ) × (start : Start) × IsOnce (map (λ w. w.now) words.now) target
         × IsReady (H.meaning.contents host.old).file target start
         × IsDone target start (H.meaning.contents host.old) (H.meaning.contents host.new)) }
-    ensures touched { IsTrue H.meaning.tells → (H.meaning.contents host.new ≡ H.meaning.contents host.old)
-        ⊎ ((target : ℕ) × (start : Start) × IsOnce (map (λ w. w.now) words.now) target
-        × IsReady (H.meaning.contents host.old).file target start
-        × IsWithin target start (H.meaning.contents host.old) (H.meaning.contents host.new)) }
+    ensures durable { OnOk result (IsDurable H.meaning host.new) }
+    ensures begun { OnOk result (HasBegun H.meaning (map (λ w. w.now) words.now) host.old host.new) }
+    ensures run { HasBegunOrNot H.meaning (map (λ w. w.now) words.now) host.old host.new }
     ensures counts { CountsRun H.meaning host.old host.new result }
 {
     match once_target(words) {
@@ -112,9 +78,9 @@ fn run_once<H: Host>(alloc: Global, host: &mut H, target: u64) -> Result<(), Ref
     ensures done { OnOk result (IsTrue H.meaning.tells
         → (start : Start) × IsReady (H.meaning.contents host.old).file target start
         × IsDone target start (H.meaning.contents host.old) (H.meaning.contents host.new)) }
-    ensures touched { IsTrue H.meaning.tells → (H.meaning.contents host.new ≡ H.meaning.contents host.old)
-        ⊎ ((start : Start) × IsReady (H.meaning.contents host.old).file target start
-        × IsWithin target start (H.meaning.contents host.old) (H.meaning.contents host.new)) }
+    ensures durable { OnOk result (IsDurable H.meaning host.new) }
+    ensures begun { OnOk result (OnceBegins H.meaning target host.old host.new) }
+    ensures run { Leads H.meaning Stays host.old host.new ⊎ OnceBegins H.meaning target host.old host.new }
     ensures counts { CountsRun H.meaning host.old host.new result }
 {
     host.sync()?;
@@ -128,20 +94,7 @@ fn run_once<H: Host>(alloc: Global, host: &mut H, target: u64) -> Result<(), Ref
 /// be said, that of what kept it from being said. A device fault and want of memory stay what they are.
 fn say_refusal<H: Host>(host: &mut H, refusal: Refusal) -> u8
     requires { IsSayable refusal }
-    ensures status { (result ≡ status_of refusal) ⊎ Yields result }
-    ensures kept { Yields (status_of refusal) → result ≡ status_of refusal }
-    ensures device { result ≡ 11
-        → (refusal ≡ Refusal.Device) ⊎ Rose (H.meaning.faults host.old) (H.meaning.faults host.new) }
-    ensures said { IsTrue H.meaning.tells
-        → (Rose (H.meaning.refused_says host.old channels.Err) (H.meaning.refused_says host.new channels.Err) → ⊥)
-        → (result ≡ status_of refusal)
-        × Says channels.Err (refusal_line refusal) (H.meaning.contents host.old) (H.meaning.contents host.new) }
-    ensures part { Over H.meaning (SaysPart channels.Err (refusal_line refusal)) host.old host.new }
-    ensures once { IsTrue H.meaning.tells
-        → WasSaid H.meaning (refusal_line refusal) (H.meaning.faults host.old) host.old host.new }
-    ensures turned { IsTrue H.meaning.tells → (Yields result → ⊥)
-        → H.meaning.refused_says host.new channels.Err ≡ H.meaning.refused_says host.old channels.Err }
-    ensures faults { H.meaning.faults host.old ≤ H.meaning.faults host.new }
+    ensures { WasTold H.meaning refusal host.old host.new result }
 {
     let line = refusal.line();
     let Err(error) = host.say(Channel::Err, line.bytes()) else {

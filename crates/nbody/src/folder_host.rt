@@ -89,7 +89,7 @@ where
         self.counted(answer)
     }
 
-    #[tactic(auto, using(nb_host::proofs::Callers::untold_ran, nb_host::proofs::Callers::untold_leads))]
+    #[tactic(auto, using(nb_host::proofs::Callers::untold_syncing))]
     fn sync(&mut self) -> Result<(), HostError> {
         let answer = self.folder.sync();
         self.counted(answer)

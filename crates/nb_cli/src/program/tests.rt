@@ -80,6 +80,18 @@ fn spell(
     Ok(())
 }
 
+/// A body's row: id, mass, mark, position, velocity.
+type Row = (u64, u32, u32, [u64; 3], [i64; 3]);
+
+/// The snapshot of these bodies at this time, spelled by hand.
+fn snapshot(alloc: Global, time: u64, rows: &[Row]) -> Result<Vec<u8>, AllocError> {
+    let mut bytes = header(alloc, rows.len() as u64, time)?;
+    for (id, mass, out, at, v) in rows {
+        spell(&mut bytes, *id, *mass, *out, *at, *v)?;
+    }
+    Ok(bytes)
+}
+
 /// A host with this initial snapshot, and something else in the file of `once`.
 fn host_of(alloc: Global, init: &[u8]) -> Result<MemoryHost, Fail> {
     let mut host = MemoryHost::new(alloc);
@@ -92,6 +104,22 @@ fn host_of(alloc: Global, init: &[u8]) -> Result<MemoryHost, Fail> {
 /// Runs the words, and tells the status alone.
 fn run_words(alloc: Global, words: &[&str], host: &mut MemoryHost) -> u8 {
     nbody(alloc, words, host)
+}
+
+/// What the words did by these parameters on this snapshot, where the host calls with these numbers fail: the
+/// status, and the host.
+fn after(
+    alloc: Global,
+    text: &[u8],
+    init: &[u8],
+    failing: &[u64],
+    words: &[&str],
+) -> Result<(u8, MemoryHost), Fail> {
+    let mut host = host_of(alloc, init)?;
+    host.with_file(PARAMS, text)?;
+    host.fail_at(failing)?;
+    let status = run_words(alloc, words, &mut host);
+    Ok((status, host))
 }
 
 /// Runs `once` on the initial snapshot, and looks whether it is done with this line and this snapshot.
@@ -116,9 +144,8 @@ fn check_done_by(
     line: &[u8],
     want: &[u8],
 ) -> Result<(), Fail> {
-    let mut host = host_of(alloc, init)?;
-    host.with_file(PARAMS, text)?;
-    assert_eq!(rt; run_words(alloc, &["once", target], &mut host), 0);
+    let (status, host) = after(alloc, text, init, &[], &["once", target])?;
+    assert_eq!(rt; status, 0);
     assert_eq!(rt; host.said(Channel::Out), line);
     assert_eq!(rt; host.said(Channel::Err), b"".as_slice());
     assert_eq!(rt; host.bytes(ONCE), want);
@@ -159,9 +186,8 @@ fn one_body(rt: HostRuntime) -> Result<(), Fail> {
     check_done(&rt, rt.alloc(), &ONE_BODY, "1", line, &ONE_BODY_LATER)?;
     // A sync, two calls for the parameters, three for the snapshot, a cut and a sync, five to begin the
     // file of `once`, one for its body, three to close it, and its line: no call more, and none less.
-    let mut host = host_of(rt.alloc(), &ONE_BODY)?;
-    assert_eq!(rt; run_words(rt.alloc(), &["once", "1"], &mut host), 0);
-    assert_eq!(rt; host.calls(), 18);
+    let (status, host) = after(rt.alloc(), TEXT, &ONE_BODY, &[], &["once", "1"])?;
+    assert_eq!(rt; (status, host.calls()), (0, 18));
     let mut host = host_of(rt.alloc(), &ONE_BODY)?;
     let done = Done {
         time: 1,
@@ -177,12 +203,16 @@ fn one_body(rt: HostRuntime) -> Result<(), Fail> {
 
 #[test]
 fn two_bodies(rt: HostRuntime) -> Result<(), Fail> {
-    let mut init = header(rt.alloc(), 2, 0)?;
-    spell(&mut init, 1, 1, 0, [H, H, H], [0, 0, 0])?;
-    spell(&mut init, 2, 1000, 0, [H + 1000, H, H], [0, 0, 0])?;
-    let mut want = header(rt.alloc(), 2, 1)?;
-    spell(&mut want, 1, 1, 0, [549_756_813_887, H, H], [999_998, 0, 0])?;
-    spell(&mut want, 2, 1000, 0, [549_755_813_889, H, H], [-999, 0, 0])?;
+    let before = [
+        (1, 1, 0, [H, H, H], [0, 0, 0]),
+        (2, 1000, 0, [H + 1000, H, H], [0, 0, 0]),
+    ];
+    let later = [
+        (1, 1, 0, [549_756_813_887, H, H], [999_998, 0, 0]),
+        (2, 1000, 0, [549_755_813_889, H, H], [-999, 0, 0]),
+    ];
+    let init = snapshot(rt.alloc(), 0, &before)?;
+    let want = snapshot(rt.alloc(), 1, &later)?;
     let fields = [
         (48, [0x3f, 0x42, 0x0f, 0, 0x80, 0, 0, 0]),
         (72, [0x3e, 0x42, 0x0f, 0, 0, 0, 0, 0]),
@@ -201,26 +231,16 @@ fn two_bodies(rt: HostRuntime) -> Result<(), Fail> {
 /// Two bodies on both sides of the border of a box that wraps.
 #[test]
 fn two_bodies_across_the_border(rt: HostRuntime) -> Result<(), Fail> {
-    let mut init = header(rt.alloc(), 2, 0)?;
-    spell(&mut init, 1, 1, 0, [0, H, H], [0, 0, 0])?;
-    spell(&mut init, 2, 1000, 0, [1_099_511_626_776, H, H], [0, 0, 0])?;
-    let mut want = header(rt.alloc(), 2, 1)?;
-    spell(
-        &mut want,
-        1,
-        1,
-        0,
-        [1_099_510_627_777, H, H],
-        [-999_998, 0, 0],
-    )?;
-    spell(
-        &mut want,
-        2,
-        1000,
-        0,
-        [1_099_511_627_775, H, H],
-        [999, 0, 0],
-    )?;
+    let before = [
+        (1, 1, 0, [0, H, H], [0, 0, 0]),
+        (2, 1000, 0, [1_099_511_626_776, H, H], [0, 0, 0]),
+    ];
+    let later = [
+        (1, 1, 0, [1_099_510_627_777, H, H], [-999_998, 0, 0]),
+        (2, 1000, 0, [1_099_511_627_775, H, H], [999, 0, 0]),
+    ];
+    let init = snapshot(rt.alloc(), 0, &before)?;
+    let want = snapshot(rt.alloc(), 1, &later)?;
     let line = b"once time 1 ticks 1 out 0\n";
     check_done_by(&rt, rt.alloc(), WRAPPED, &init, "1", line, &want)?;
     let line = b"once time 0 ticks 1 out 0\n";
@@ -237,13 +257,10 @@ fn one_body_across_the_border(rt: HostRuntime) -> Result<(), Fail> {
         ([5, 5, 5], 1_099_511_627_776, 1, [5, 5, 5]),
     ];
     for (from, speed, out, to) in table {
-        let mut init = header(rt.alloc(), 1, 0)?;
-        spell(&mut init, 7, 3, 0, from, [speed, 0, 0])?;
-        let mut want = header(rt.alloc(), 1, 1)?;
-        spell(&mut want, 7, 3, out, to, [speed, 0, 0])?;
-        let mut host = host_of(rt.alloc(), &init)?;
-        host.with_file(PARAMS, WRAPPED)?;
-        assert_eq!(rt; run_words(rt.alloc(), &["once", "1"], &mut host), 0);
+        let init = snapshot(rt.alloc(), 0, &[(7, 3, 0, from, [speed, 0, 0])])?;
+        let want = snapshot(rt.alloc(), 1, &[(7, 3, out, to, [speed, 0, 0])])?;
+        let (status, host) = after(rt.alloc(), WRAPPED, &init, &[], &["once", "1"])?;
+        assert_eq!(rt; status, 0);
         assert_eq!(rt; host.bytes(ONCE), want.as_slice());
     }
     Ok(())
@@ -251,12 +268,12 @@ fn one_body_across_the_border(rt: HostRuntime) -> Result<(), Fail> {
 
 #[test]
 fn two_bodies_in_one_place(rt: HostRuntime) -> Result<(), Fail> {
-    let mut init = header(rt.alloc(), 2, 0)?;
-    let mut want = header(rt.alloc(), 2, 10)?;
-    for id in 1..3 {
-        spell(&mut init, id, 5, 0, [H, H, H], [0, 0, 0])?;
-        spell(&mut want, id, 5, 0, [H, H, H], [0, 0, 0])?;
-    }
+    let rows = [
+        (1, 5, 0, [H, H, H], [0, 0, 0]),
+        (2, 5, 0, [H, H, H], [0, 0, 0]),
+    ];
+    let init = snapshot(rt.alloc(), 0, &rows)?;
+    let want = snapshot(rt.alloc(), 10, &rows)?;
     let line = b"once time 10 ticks 10 out 0\n";
     check_done(&rt, rt.alloc(), &init, "10", line, &want)
 }
@@ -271,14 +288,11 @@ fn leaves_the_box(rt: HostRuntime) -> Result<(), Fail> {
         ([0, 0, 0], [0, -1, 0]),
     ];
     for (at, v) in table {
-        let mut init = header(rt.alloc(), 1, 0)?;
-        spell(&mut init, 7, 3, 0, at, v)?;
-        let mut want = header(rt.alloc(), 1, 1)?;
-        spell(&mut want, 7, 3, 1, at, v)?;
+        let init = snapshot(rt.alloc(), 0, &[(7, 3, 0, at, v)])?;
+        let want = snapshot(rt.alloc(), 1, &[(7, 3, 1, at, v)])?;
         let line = b"once time 1 ticks 1 out 1\n";
         check_done(&rt, rt.alloc(), &init, "1", line, &want)?;
-        let mut later = header(rt.alloc(), 1, 2)?;
-        spell(&mut later, 7, 3, 1, at, v)?;
+        let later = snapshot(rt.alloc(), 2, &[(7, 3, 1, at, v)])?;
         let line = b"once time 2 ticks 2 out 1\n";
         check_done(&rt, rt.alloc(), &init, "2", line, &later)?;
     }
@@ -342,11 +356,12 @@ fn check_snapshot(
 fn no_snapshot(rt: HostRuntime) -> Result<(), Fail> {
     let mut longer = Vec::from_slice(rt.alloc(), &ONE_BODY)?;
     longer.push(0)?;
-    let mut same_id = header(rt.alloc(), 2, 0)?;
-    spell(&mut same_id, 4, 1, 0, [0, 0, 0], [0, 0, 0])?;
-    spell(&mut same_id, 4, 1, 0, [0, 0, 0], [0, 0, 0])?;
-    let mut too_fast = header(rt.alloc(), 1, 0)?;
-    spell(&mut too_fast, 1, 1, 0, [0, 0, 0], [1 << 61, 0, 0])?;
+    let same_id = snapshot(
+        rt.alloc(),
+        0,
+        &[(4, 1, 0, [0; 3], [0; 3]), (4, 1, 0, [0; 3], [0; 3])],
+    )?;
+    let too_fast = snapshot(rt.alloc(), 0, &[(1, 1, 0, [0; 3], [1 << 61, 0, 0])])?;
     let table = [
         (b"".as_slice(), b"nbody: snapshot: short\n".as_slice()),
         (&ONE_BODY[..95], b"nbody: snapshot: length\n"),
@@ -420,9 +435,8 @@ fn no_parameters(rt: HostRuntime) -> Result<(), Fail> {
 fn parameters_with_comments(rt: HostRuntime) -> Result<(), Fail> {
     let text = b"# of a test\r\n\tgrav\t=\t1000000000\r\ntheta_num=1\r\ntheta_den = 02\r\n\r\n\
         every = 100\r\nleaf = 8 \r\nsoft = 1";
-    let mut host = host_of(rt.alloc(), &ONE_BODY)?;
-    host.with_file(PARAMS, text)?;
-    assert_eq!(rt; run_words(rt.alloc(), &["once", "1"], &mut host), 0);
+    let (status, host) = after(rt.alloc(), text, &ONE_BODY, &[], &["once", "1"])?;
+    assert_eq!(rt; status, 0);
     assert_eq!(rt; host.bytes(ONCE), ONE_BODY_LATER.as_slice());
     assert_eq!(rt; host.bytes(PARAMS), text.as_slice());
     Ok(())
@@ -432,42 +446,34 @@ fn parameters_with_comments(rt: HostRuntime) -> Result<(), Fail> {
 const HEAVY: &[u8] =
     b"grav = 268435456\ntheta_num = 1\ntheta_den = 2\nsoft = 1\nleaf = 8\nevery = 100\n";
 
-#[test]
-fn too_heavy(rt: HostRuntime) -> Result<(), Fail> {
-    let mut init = header(rt.alloc(), 2, 0)?;
-    spell(&mut init, 1, 2_147_483_648, 0, [0, 0, 0], [0, 0, 0])?;
-    spell(&mut init, 2, 2_147_483_648, 1, [0, 0, 0], [0, 0, 0])?;
-    let mut host = host_of(rt.alloc(), &init)?;
-    host.with_file(PARAMS, HEAVY)?;
-    // too far away too, which is looked for after it
-    check_refused(
-        &rt,
-        rt.alloc(),
-        &mut host,
-        &["once", "1099511627777"],
-        4,
-        b"nbody: grav 268435456 times mass 4294967296 is not below 2^60\n",
-    )?;
-
-    // no body out, and no other cause
-    let mut init = header(rt.alloc(), 2, 0)?;
-    spell(&mut init, 1, 2_147_483_648, 0, [0, 0, 0], [0, 0, 0])?;
-    spell(&mut init, 2, 2_147_483_648, 0, [0, 0, 0], [0, 0, 0])?;
-    let mut host = host_of(rt.alloc(), &init)?;
+/// Runs `once` on two bodies of mass 2^31, the second with this mark, which are too heavy together.
+fn check_heavy(rt: &impl Abort, alloc: Global, out: u32, target: &str) -> Result<(), Fail> {
+    let rows = [
+        (1, 2_147_483_648, 0, [0; 3], [0; 3]),
+        (2, 2_147_483_648, out, [0; 3], [0; 3]),
+    ];
+    let init = snapshot(alloc, 0, &rows)?;
+    let mut host = host_of(alloc, &init)?;
     host.with_file(PARAMS, HEAVY)?;
     let line = b"nbody: grav 268435456 times mass 4294967296 is not below 2^60\n";
-    check_refused(&rt, rt.alloc(), &mut host, &["once", "1"], 4, line)?;
+    check_refused(rt, alloc, &mut host, &["once", target], 4, line)
+}
 
-    let mut light = header(rt.alloc(), 1, 0)?;
-    spell(&mut light, 1, 1, 0, [0, 0, 0], [0, 0, 0])?;
-    let mut host = host_of(rt.alloc(), &light)?;
-    host.with_file(
-        PARAMS,
-        b"grav = 1152921504606846975\ntheta_num = 1\ntheta_den = 2\nsoft = 1\nleaf = 8\nevery = 1\n",
-    )?;
-    assert_eq!(rt; run_words(rt.alloc(), &["once", "0"], &mut host), 0);
-    assert_eq!(rt; host.bytes(ONCE), light.as_slice());
-    Ok(())
+#[test]
+fn too_heavy(rt: HostRuntime) -> Result<(), Fail> {
+    // one body out, and too far away too, which is looked for after it
+    check_heavy(&rt, rt.alloc(), 1, "1099511627777")?;
+    // no body out, and no other cause
+    check_heavy(&rt, rt.alloc(), 0, "1")
+}
+
+#[test]
+fn just_light_enough(rt: HostRuntime) -> Result<(), Fail> {
+    let text =
+        b"grav = 1152921504606846975\ntheta_num = 1\ntheta_den = 2\nsoft = 1\nleaf = 8\nevery = 1\n";
+    let light = snapshot(rt.alloc(), 0, &[(1, 1, 0, [0; 3], [0; 3])])?;
+    let line = b"once time 0 ticks 0 out 0\n";
+    check_done_by(&rt, rt.alloc(), text, &light, "0", line, &light)
 }
 
 #[test]
@@ -505,78 +511,88 @@ fn crowd(alloc: Global, count: u64) -> Result<Vec<u8>, AllocError> {
     Ok(bytes)
 }
 
+/// Parameters by which a crowd isn't too heavy.
+const LIGHT: &[u8] = b"grav = 1\ntheta_num = 1\ntheta_den = 2\nsoft = 1\nleaf = 8\nevery = 100\n";
+
+/// Runs `once` by these parameters on a snapshot that is refused so.
+fn check_crowd(
+    rt: &impl Abort,
+    alloc: Global,
+    text: &[u8],
+    init: &[u8],
+    target: &str,
+    status: u8,
+    line: &[u8],
+) -> Result<(), Fail> {
+    let mut host = host_of(alloc, init)?;
+    host.with_file(PARAMS, text)?;
+    check_refused(rt, alloc, &mut host, &["once", target], status, line)
+}
+
 #[test]
-fn many_bodies(rt: HostRuntime) -> Result<(), Fail> {
-    // too heavy too, and too many ticks, which are looked for after it
+fn too_many_bodies(rt: HostRuntime) -> Result<(), Fail> {
+    // too heavy too, and too many ticks, which are looked for after it; and too many alone
     let mut most = crowd(rt.alloc(), 4097)?;
     let line = b"nbody: 4097 bodies are more than 4096\n";
-    check_snapshot(&rt, rt.alloc(), &most, "1099511627777", 10, line)?;
+    check_crowd(&rt, rt.alloc(), TEXT, &most, "1099511627777", 10, line)?;
+    check_crowd(&rt, rt.alloc(), LIGHT, &most, "1", 10, line)?;
 
-    // too many alone
-    let mut host = host_of(rt.alloc(), &most)?;
-    host.with_file(
-        PARAMS,
-        b"grav = 1\ntheta_num = 1\ntheta_den = 2\nsoft = 1\nleaf = 8\nevery = 100\n",
-    )?;
-    check_refused(&rt, rt.alloc(), &mut host, &["once", "1"], 10, line)?;
-
-    // a file of too many bodies whose last one is none is no snapshot
+    // A file of too many bodies whose last one is none is no snapshot, and parameters that are none are looked
+    // for before it.
     let len = most.len();
     assert!(rt; len > 52);
     most[len - 52] = 2;
     let line = b"nbody: snapshot: flag at body 4096\n";
-    check_snapshot(&rt, rt.alloc(), &most, "0", 3, line)?;
-
-    // and parameters that are none are looked for before it
-    let mut host = host_of(rt.alloc(), &most)?;
-    host.with_file(PARAMS, b"soft = 0")?;
+    check_crowd(&rt, rt.alloc(), TEXT, &most, "0", 3, line)?;
     let line = b"nbody: params: line 1 is out of range\n";
-    check_refused(&rt, rt.alloc(), &mut host, &["once", "0"], 2, line)?;
+    check_crowd(&rt, rt.alloc(), b"soft = 0", &most, "0", 2, line)
+}
 
+#[test]
+fn the_most_bodies(rt: HostRuntime) -> Result<(), Fail> {
     let most = crowd(rt.alloc(), 4096)?;
-    let mut host = host_of(rt.alloc(), &most)?;
-    host.with_file(
-        PARAMS,
-        b"grav = 1\ntheta_num = 1\ntheta_den = 2\nsoft = 1\nleaf = 8\nevery = 100\n",
-    )?;
-    assert_eq!(rt; run_words(rt.alloc(), &["once", "0"], &mut host), 0);
-    assert_eq!(rt; host.bytes(ONCE), most.as_slice());
+    let line = b"once time 0 ticks 0 out 0\n";
+    check_done_by(&rt, rt.alloc(), LIGHT, &most, "0", line, &most)
+}
+
+/// A host call fails, the last one of which says the line: so much of it is said on Out, and nothing has changed
+/// that isn't `once`'s.
+fn check_fault(rt: &impl Abort, alloc: Global, call: u64, out: &[u8]) -> Result<(), Fail> {
+    let (status, host) = after(alloc, TEXT, &ONE_BODY, &[call], &["once", "1"])?;
+    assert_eq!(rt; (status, host.faults()), (11, 1), "call {call}");
+    assert_eq!(rt;
+        host.said(Channel::Err),
+        b"nbody: a device fault\n".as_slice()
+    );
+    assert_eq!(rt; host.said(Channel::Out), out, "call {call}");
+    assert_eq!(rt; host.bytes(INIT), ONE_BODY.as_slice());
+    assert_eq!(rt; host.bytes(PARAMS), TEXT);
     Ok(())
 }
 
-/// Each host call fails in turn. The last one says the line.
+/// Each host call fails in turn. The eighteenth, the last one, says the line.
 #[test]
 fn a_fault(rt: HostRuntime) -> Result<(), Fail> {
-    let mut host = host_of(rt.alloc(), &ONE_BODY)?;
-    assert_eq!(rt; run_words(rt.alloc(), &["once", "1"], &mut host), 0);
-    let last = host.calls();
-    for call in 1..=last {
-        let mut host = host_of(rt.alloc(), &ONE_BODY)?;
-        host.fail_at(&[call])?;
-        assert_eq!(rt;
-            run_words(rt.alloc(), &["once", "1"], &mut host),
-            11,
-            "call {call}"
-        );
-        assert_eq!(rt; host.faults(), 1);
-        assert_eq!(rt;
-            host.said(Channel::Err),
-            b"nbody: a device fault\n".as_slice()
-        );
-        let out = if call == last {
-            b"once time 1 t".as_slice()
-        } else {
-            b""
-        };
-        assert_eq!(rt; host.said(Channel::Out), out, "call {call}");
-        assert_eq!(rt; host.bytes(INIT), ONE_BODY.as_slice());
-        assert_eq!(rt; host.bytes(PARAMS), TEXT);
+    for call in 1..18 {
+        check_fault(&rt, rt.alloc(), call, b"")?;
     }
+    check_fault(&rt, rt.alloc(), 18, b"once time 1 t")
+}
+
+/// What is in the file of `once` where it held 200 bytes, and this call fails.
+fn check_old(rt: &impl Abort, alloc: Global, call: u64, left: &[u8]) -> Result<(), Fail> {
+    let old = vec![in alloc; b'o'; 200]?;
+    let mut host = host_of(alloc, &ONE_BODY)?;
+    host.with_file(ONCE, &old)?;
+    host.fail_at(&[call])?;
+    assert_eq!(rt; run_words(alloc, &["once", "1"], &mut host), 11);
+    assert_eq!(rt; host.bytes(ONCE), left, "call {call}");
     Ok(())
 }
 
 /// A longer file of `once` is cut before it is written, and each call that fails before its header is written
-/// leaves of it what that call should.
+/// leaves of it what that call should. The seventh call cuts the file, the eighth syncs that, and the twelfth
+/// syncs the shut gate.
 #[test]
 fn a_longer_old_file(rt: HostRuntime) -> Result<(), Fail> {
     let old = vec![in rt.alloc(); b'o'; 200]?;
@@ -584,33 +600,22 @@ fn a_longer_old_file(rt: HostRuntime) -> Result<(), Fail> {
     host.with_file(ONCE, &old)?;
     assert_eq!(rt; run_words(rt.alloc(), &["once", "1"], &mut host), 0);
     assert_eq!(rt; host.bytes(ONCE), ONE_BODY_LATER.as_slice());
-    // The seventh call cuts the file, the eighth syncs that, and the twelfth syncs the shut gate.
-    for call in 1..=12 {
-        let mut host = host_of(rt.alloc(), &ONE_BODY)?;
-        host.with_file(ONCE, &old)?;
-        host.fail_at(&[call])?;
-        assert_eq!(rt; run_words(rt.alloc(), &["once", "1"], &mut host), 11);
-        let left = match call {
-            1..=7 => old.as_slice(),
-            12 => b"\0",
-            _ => b"",
-        };
-        assert_eq!(rt; host.bytes(ONCE), left, "call {call}");
+    for call in 1..8 {
+        check_old(&rt, rt.alloc(), call, &old)?;
     }
-    Ok(())
+    for call in 8..12 {
+        check_old(&rt, rt.alloc(), call, b"")?;
+    }
+    check_old(&rt, rt.alloc(), 12, b"\0")
 }
 
 /// A host call fails, and so does saying it.
 #[test]
 fn two_faults(rt: HostRuntime) -> Result<(), Fail> {
-    for call in [1, 2, 4] {
-        assert!(rt; call < 5);
-        let mut host = host_of(rt.alloc(), &ONE_BODY)?;
-        host.fail_at(&[call, call + 1])?;
-        assert_eq!(rt; run_words(rt.alloc(), &["once", "1"], &mut host), 11);
-        assert_eq!(rt; host.faults(), 2);
+    for (call, next) in [(1, 2), (2, 3), (4, 5)] {
+        let (status, host) = after(rt.alloc(), TEXT, &ONE_BODY, &[call, next], &["once", "1"])?;
+        assert_eq!(rt; (status, host.faults(), host.calls()), (11, 2, next));
         assert_eq!(rt; host.said(Channel::Err), b"nbody: a de".as_slice());
-        assert_eq!(rt; host.calls(), call + 1);
     }
     Ok(())
 }
@@ -618,18 +623,13 @@ fn two_faults(rt: HostRuntime) -> Result<(), Fail> {
 /// The line of a refusal can't be said: the status becomes that of the fault, and half of the line was said.
 #[test]
 fn a_refusal_unsaid(rt: HostRuntime) -> Result<(), Fail> {
-    let mut host = host_of(rt.alloc(), &ONE_BODY)?;
-    host.fail_at(&[1])?;
-    assert_eq!(rt; run_words(rt.alloc(), &["again"], &mut host), 11);
+    let (status, host) = after(rt.alloc(), TEXT, &ONE_BODY, &[1], &["again"])?;
+    assert_eq!(rt; (status, host.calls()), (11, 1));
     assert_eq!(rt; host.said(Channel::Err), b"nbody: the words ".as_slice());
-    assert_eq!(rt; host.calls(), 1);
 
     // after the sync, and the length and the bytes of the parameters
-    let mut host = host_of(rt.alloc(), &ONE_BODY)?;
-    host.with_file(PARAMS, b"#")?;
-    host.fail_at(&[4])?;
-    assert_eq!(rt; run_words(rt.alloc(), &["once", "1"], &mut host), 11);
+    let (status, host) = after(rt.alloc(), b"#", &ONE_BODY, &[4], &["once", "1"])?;
+    assert_eq!(rt; (status, host.calls()), (11, 4));
     assert_eq!(rt; host.said(Channel::Err), b"nbody: params: ".as_slice());
-    assert_eq!(rt; host.calls(), 4);
     Ok(())
 }

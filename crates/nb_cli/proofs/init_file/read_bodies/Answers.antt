@@ -31,7 +31,7 @@ loop-bodies-preserved g c =
       given = let P : List Body → Type 0 = λ bodies. HasGiven g.H.Host.meaning.tells ((g.H.Host.meaning.contents c.args.host.now).file init_file) c.args.reader c.next.new.self bodies in subst P (sym items) more;
       stays = stays_both kept.stays c.next.ensures.ran.leads;
       faults = c.next.ensures.ran.spared (search rules) ∙ kept.faults;
-      refused = c.next.ensures.ran.refused ∙ kept.refused;
+      tally = c.next.ensures.ran.tally ∙ kept.tally;
     }
 
 pub returns-in_err-map_err-clause-ran : goal.returns-in_err-map_err-clause-ran
@@ -45,5 +45,5 @@ returns-in_err-map_err-clause-ran g c =
       count = omega (arith, faults);
       rose = λ is. absurd (cc);
       spared = λ _. faults;
-      refused = c.next.ensures.ran.refused ∙ kept.refused;
+      tally = c.next.ensures.ran.tally ∙ kept.tally;
     }

@@ -11,7 +11,7 @@ invariant-loop-bodies g l = let m = g.H.Host.meaning in record {
   given : HasGiven m.tells ((m.contents l.initial.host).file init_file) l.initial.reader l.reader l.bodies.items;
   stays : Leads m Stays l.initial.host l.host;
   faults : m.faults l.host ≡ m.faults l.initial.host;
-  refused : m.refused_says l.host ≡ m.refused_says l.initial.host;
+  tally : m.tally l.host ≡ m.tally l.initial.host;
 }
 
 abbrev pub decreases-loop-bodies : goal.decreases-loop-bodies

@@ -29,5 +29,5 @@ loop-preserved g c =
       );
       stays = stays_both kept.stays c.next.ensures.ran.leads;
       faults = c.next.ensures.ran.spared (search rules) ∙ kept.faults;
-      refused = c.next.ensures.ran.refused ∙ kept.refused;
+      tally = c.next.ensures.ran.tally ∙ kept.tally;
     }

@@ -6,6 +6,7 @@ use Rattle.nb_format.specs.Reader.{time_of}
 use Rattle.nb_cli.specs.Refusal.{NeedsNoCause, refusal_by_reader}
 use Rattle.nb_cli.specs.Once.{Start, HasStart, list_at, IsReady, IsRefused}
 use Rattle.nb_cli.proofs.Starts.{refused_by_reader, header_read, refused_still, once_refusal-many, start_read, list_at-taken, becomes_from, written_list}
+use Rattle.nb_cli.proofs.Runs.{leads_none_written, leads_written}
 use Rattle.nb_cli.proofs.once_command.once.Goals as goal
 
 -- Where the snapshot is refused.
@@ -58,26 +59,6 @@ returns-in-Some-clause-cause g c told =
 
 -- Where it is.
 
-pub returns-in_err-write_bodies-clause-touched : goal.returns-in_err-write_bodies-clause-touched
-returns-in_err-write_bodies-clause-touched g c told =
-    let same = (stays_contents c.in_ok-reader.ensures.ran.leads) ∙ (stays_contents c.in_ok-params.ensures.ran.leads) in
-    let read = header_read (stays_contents c.in_ok-reader.ensures.ran.leads) (c.in_ok-reader.ensures.header told) in
-    let start : Start = record { params = c.in_ok-params.params; bodies = c.deref.result.now; time = c.time-time.result } in
-    let starts : HasStart (g.H.Host.meaning.contents c.args.host.now).file start = start_read same (c.in_ok-params.ensures.spelled told) (c.in_ok-bodies.ensures.whole told read) c.deref.ensures.value c.time-time.ensures in
-    let ready : IsReady (g.H.Host.meaning.contents c.args.host.now).file c.args.target start = record { starts = starts; takes = sym c.once_refusal.ensures ∙ c.in_default.is } in
-    let unchanged = (stays_contents c.in_ok-bodies.ensures.ran.leads) ∙ same in
-    inr (start, ready, becomes_from unchanged (c.write_bodies.ensures.others told))
-
-pub returns-clause-touched : goal.returns-clause-touched
-returns-clause-touched g c told =
-    let same = (stays_contents c.in_ok-reader.ensures.ran.leads) ∙ (stays_contents c.in_ok-params.ensures.ran.leads) in
-    let read = header_read (stays_contents c.in_ok-reader.ensures.ran.leads) (c.in_ok-reader.ensures.header told) in
-    let start : Start = record { params = c.in_ok-params.params; bodies = c.deref.result.now; time = c.time-time.result } in
-    let starts : HasStart (g.H.Host.meaning.contents c.args.host.now).file start = start_read same (c.in_ok-params.ensures.spelled told) (c.in_ok-bodies.ensures.whole told read) c.deref.ensures.value c.time-time.ensures in
-    let ready : IsReady (g.H.Host.meaning.contents c.args.host.now).file c.args.target start = record { starts = starts; takes = sym c.once_refusal.ensures ∙ c.in_default.is } in
-    let unchanged = (stays_contents c.in_ok-bodies.ensures.ran.leads) ∙ same in
-    inr (start, ready, becomes_from unchanged (c.write_bodies.ensures.others told))
-
 pub returns-clause-done : goal.returns-clause-done
 returns-clause-done g c told =
     let same = (stays_contents c.in_ok-reader.ensures.ran.leads) ∙ (stays_contents c.in_ok-params.ensures.ran.leads) in
@@ -93,3 +74,124 @@ returns-clause-done g c told =
       record { time = refl; ticks = c.leg_to-leg.ensures.ticks; gone = c.escaped_count-gone.ensures ∙ ap escaped_count (c.deref-2.ensures.value ∙ sym c.deref-3.ensures.value ∙ listed) },
       written_list unchanged listed (c.in_ok-write_bodies.ensures.written told),
     )
+
+-- What it leaves at each moment.
+
+pub returns-in_err-reader-clause-ran : goal.returns-in_err-reader-clause-ran
+returns-in_err-reader-clause-ran g c = record {
+  leads = leads_none_written (stays_both c.in_ok-params.ensures.ran.leads c.in_err-reader.ensures.ran.leads);
+  count = search rules;
+  rose = search rules;
+  spared = search rules;
+  refused = search rules;
+  synced = search rules;
+  at_most = search rules;
+}
+
+pub returns-in_err-skim-clause-ran : goal.returns-in_err-skim-clause-ran
+returns-in_err-skim-clause-ran g c = record {
+  leads = leads_none_written
+      (stays_both (stays_both c.in_ok-params.ensures.ran.leads c.in_ok-reader.ensures.ran.leads) c.in_err-skim.ensures.ran.leads);
+  count = search rules;
+  rose = search rules;
+  spared = search rules;
+  refused = search rules;
+  synced = search rules;
+  at_most = search rules;
+}
+
+pub returns-then-count-gt-MOST_ONCE_BODIES-clause-ran : goal.returns-then-count-gt-MOST_ONCE_BODIES-clause-ran
+returns-then-count-gt-MOST_ONCE_BODIES-clause-ran g c = record {
+  leads = leads_none_written
+      (stays_both (stays_both c.in_ok-params.ensures.ran.leads c.in_ok-reader.ensures.ran.leads) c.in_ok-skim.ensures.ran.leads);
+  count = search rules;
+  rose = search rules;
+  spared = search rules;
+  refused = search rules;
+  synced = search rules;
+  at_most = search rules;
+}
+
+pub returns-in_err-bodies-clause-ran : goal.returns-in_err-bodies-clause-ran
+returns-in_err-bodies-clause-ran g c = record {
+  leads = leads_none_written
+      (stays_both (stays_both c.in_ok-params.ensures.ran.leads c.in_ok-reader.ensures.ran.leads) c.in_err-bodies.ensures.ran.leads);
+  count = search rules;
+  rose = search rules;
+  spared = search rules;
+  refused = search rules;
+  synced = search rules;
+  at_most = search rules;
+}
+
+pub returns-in-Some-clause-ran : goal.returns-in-Some-clause-ran
+returns-in-Some-clause-ran g c = record {
+  leads = leads_none_written
+      (stays_both (stays_both c.in_ok-params.ensures.ran.leads c.in_ok-reader.ensures.ran.leads) c.in_ok-bodies.ensures.ran.leads);
+  count = search rules;
+  rose = search rules;
+  spared = search rules;
+  refused = search rules;
+  synced = search rules;
+  at_most = search rules;
+}
+
+pub returns-in_err-advance-clause-ran : goal.returns-in_err-advance-clause-ran
+returns-in_err-advance-clause-ran g c = record {
+  leads = leads_none_written
+      (stays_both (stays_both c.in_ok-params.ensures.ran.leads c.in_ok-reader.ensures.ran.leads) c.in_ok-bodies.ensures.ran.leads);
+  count = search rules;
+  rose = search rules;
+  spared = search rules;
+  refused = search rules;
+  synced = search rules;
+  at_most = search rules;
+}
+
+pub returns-in_err-write_bodies-clause-ran : goal.returns-in_err-write_bodies-clause-ran
+returns-in_err-write_bodies-clause-ran g c =
+    let same = (stays_contents c.in_ok-reader.ensures.ran.leads) ∙ (stays_contents c.in_ok-params.ensures.ran.leads) in
+    let ready : IsTrue g.H.Host.meaning.tells → (start : Start) × IsReady (g.H.Host.meaning.contents c.args.host.now).file c.args.target start = λ told.
+    let read = header_read (stays_contents c.in_ok-reader.ensures.ran.leads) (c.in_ok-reader.ensures.header told) in
+    let start : Start = record { params = c.in_ok-params.params; bodies = c.deref.result.now; time = c.time-time.result } in (
+      start,
+      record {
+        starts = start_read same (c.in_ok-params.ensures.spelled told) (c.in_ok-bodies.ensures.whole told read) c.deref.ensures.value c.time-time.ensures;
+        takes = sym c.once_refusal.ensures ∙ c.in_default.is;
+      },
+    ) in
+    record {
+      leads = leads_written
+          (stays_both (stays_both c.in_ok-params.ensures.ran.leads c.in_ok-reader.ensures.ran.leads) c.in_ok-bodies.ensures.ran.leads)
+          ready c.in_err-write_bodies.ensures.ran.leads;
+      count = search rules;
+      rose = search rules;
+      spared = search rules;
+      refused = search rules;
+      synced = search rules;
+      at_most = search rules;
+    }
+
+pub returns-clause-ran : goal.returns-clause-ran
+returns-clause-ran g c =
+    let same = (stays_contents c.in_ok-reader.ensures.ran.leads) ∙ (stays_contents c.in_ok-params.ensures.ran.leads) in
+    let ready : IsTrue g.H.Host.meaning.tells → (start : Start) × IsReady (g.H.Host.meaning.contents c.args.host.now).file c.args.target start = λ told.
+    let read = header_read (stays_contents c.in_ok-reader.ensures.ran.leads) (c.in_ok-reader.ensures.header told) in
+    let start : Start = record { params = c.in_ok-params.params; bodies = c.deref.result.now; time = c.time-time.result } in (
+      start,
+      record {
+        starts = start_read same (c.in_ok-params.ensures.spelled told) (c.in_ok-bodies.ensures.whole told read) c.deref.ensures.value c.time-time.ensures;
+        takes = sym c.once_refusal.ensures ∙ c.in_default.is;
+      },
+    ) in
+    record {
+      leads = leads_written
+          (stays_both (stays_both c.in_ok-params.ensures.ran.leads c.in_ok-reader.ensures.ran.leads) c.in_ok-bodies.ensures.ran.leads)
+          ready c.in_ok-write_bodies.ensures.ran.leads;
+      count = search rules;
+      rose = search rules;
+      spared = search rules;
+      refused = search rules;
+      synced = search rules;
+      at_most = search rules;
+    }

@@ -1,9 +1,10 @@
-use Rattle.std.proofs.Common.{rules, ◌≡◌, ◌⊎◌, Err, subst, sym, ◌∙◌, IsTrue}
-use Rattle.nb_host.proofs.Callers.{stays_contents, stays_both}
-use Rattle.nb_cli.specs.Refusal.{NeedsNoCause}
+use Rattle.std.proofs.Common.{rules, ◌≡◌, ◌≢◌, ◌⊎◌, inr, Ok, Err, ap, ◌∙◌, IsTrue, IsOk}
+use Rattle.nb_host.proofs.Callers.{stays_contents, syncing_then}
+use Rattle.nb_cli.specs.declared.refusal.Refusal.TheVariants as refusal
+use Rattle.nb_cli.specs.Refusal.{refusal_by_host, NeedsNoCause}
 use Rattle.nb_cli.specs.Once.{IsRefused}
 use Rattle.nb_cli.proofs.Causes.{cause_still}
-use Rattle.nb_cli.proofs.Runs.{touched_by_file, touched_by_line}
+use Rattle.nb_cli.proofs.Runs.{to_say, leads_synced, leads_file, leads_from, leads_line, counts_unsynced, counts_refused, counts_said, said_answer}
 use Rattle.nb_cli.proofs.program.run_once.Goals as goal
 
 pub returns-in_err-done-clause-cause : goal.returns-in_err-done-clause-cause
@@ -14,14 +15,81 @@ returns-in_err-done-clause-cause g c =
     cause_still (stays_contents c.sync.ensures.ran.leads) (c.in_err-done.ensures.cause told) in
     rw handed_on cause
 
-pub returns-in_err-done-clause-touched : goal.returns-in_err-done-clause-touched
-returns-in_err-done-clause-touched g c told =
-    touched_by_file (stays_contents c.sync.ensures.ran.leads) (c.once.ensures.touched told)
+-- What it leaves at each moment.
 
-pub returns-in_err-say-clause-touched : goal.returns-in_err-say-clause-touched
-returns-in_err-say-clause-touched g c told =
-    touched_by_line _ (stays_contents c.sync.ensures.ran.leads) (c.in_ok-done.ensures.done told) (c.bytes.ensures.value ∙ c.once_line-line.ensures) (c.say.ensures.spoke.leads.contents told)
+pub returns-in_err-done-clause-run : goal.returns-in_err-done-clause-run
+returns-in_err-done-clause-run g c = inr (record {
+  synced = c.sync.new.self;
+  before = c.in_ok-sync.ensures.ran.leads;
+  durable = c.in_ok-sync.ensures.durable;
+  since = leads_file (leads_from (stays_contents c.in_ok-sync.ensures.ran.leads) c.in_err-done.ensures.ran.leads);
+})
 
-pub returns-clause-touched : goal.returns-clause-touched
-returns-clause-touched g c told =
-    touched_by_line _ (stays_contents c.sync.ensures.ran.leads) (c.in_ok-done.ensures.done told) (c.bytes.ensures.value ∙ c.once_line-line.ensures) (c.say.ensures.spoke.leads.contents told)
+pub returns-in_err-say-clause-run : goal.returns-in_err-say-clause-run
+returns-in_err-say-clause-run g c = inr (record {
+  synced = c.sync.new.self;
+  before = c.in_ok-sync.ensures.ran.leads;
+  durable = c.in_ok-sync.ensures.durable;
+  since = leads_line c.bytes.result.now
+      (leads_from (stays_contents c.in_ok-sync.ensures.ran.leads) c.in_ok-done.ensures.ran.leads)
+      c.in_ok-done.ensures.durable
+      (λ tells. to_say c.bytes.result.now (stays_contents c.in_ok-sync.ensures.ran.leads) (c.in_ok-done.ensures.done tells)
+      (c.bytes.ensures.value ∙ c.once_line-line.ensures))
+      c.in_err-say.ensures.spoke.leads;
+})
+
+pub returns-clause-begun : goal.returns-clause-begun
+returns-clause-begun g c = record {
+  synced = c.sync.new.self;
+  before = c.in_ok-sync.ensures.ran.leads;
+  durable = c.in_ok-sync.ensures.durable;
+  since = leads_line c.bytes.result.now
+      (leads_from (stays_contents c.in_ok-sync.ensures.ran.leads) c.in_ok-done.ensures.ran.leads)
+      c.in_ok-done.ensures.durable
+      (λ tells. to_say c.bytes.result.now (stays_contents c.in_ok-sync.ensures.ran.leads) (c.in_ok-done.ensures.done tells)
+      (c.bytes.ensures.value ∙ c.once_line-line.ensures))
+      c.in_ok-say.ensures.spoke.leads;
+}
+
+pub returns-clause-run : goal.returns-clause-run
+returns-clause-run g c = inr (returns-clause-begun g c)
+
+-- What it owes to the counts.
+
+pub returns-in_err-sync-clause-counts : goal.returns-in_err-sync-clause-counts
+returns-in_err-sync-clause-counts g c =
+    let handed_on : c.from_residual.result ≡ Err (refusal_by_host c.in_err-sync.field-0.0) = search rules in
+    rw handed_on (counts_unsynced c.sync.ensures.ran c.in_err-sync.was)
+
+pub returns-in_err-done-clause-counts : goal.returns-in_err-done-clause-counts
+returns-in_err-done-clause-counts g c =
+    let why = c.in_err-done.field-0.0 in
+    let handed_on : c.from_residual-in_err-done.result ≡ Err why = search rules in
+    let fine : IsOk c.sync.result = search rules in
+    let other : why ≢ refusal.Words = λ is. c.once.ensures.words (c.in_err-done.was ∙ ap Err is) in
+    rw handed_on
+    (counts_refused fine c.sync.ensures.ran c.once.ensures.ran c.in_err-done.was other c.in_err-done.ensures.unsynced)
+
+pub returns-in_err-say-clause-counts : goal.returns-in_err-say-clause-counts
+returns-in_err-say-clause-counts g c =
+    let fine : IsOk c.sync.result = search rules in
+    let done : IsOk c.once.result = search rules in
+    let handed_on : c.from_residual-in_err-say.result ≡ said_answer c.say.result = search rules in
+    rw handed_on
+    (counts_said
+    (syncing_then fine c.sync.ensures.ran c.once.ensures.ran
+    (leads_synced c.sync.ensures.ran.leads
+    (leads_from (stays_contents c.sync.ensures.ran.leads) c.once.ensures.ran.leads)))
+    done c.say.ensures.spoke)
+
+pub returns-clause-counts : goal.returns-clause-counts
+returns-clause-counts g c =
+    let fine : IsOk c.sync.result = search rules in
+    let done : IsOk c.once.result = search rules in
+    let handed_on : c.say.result ≡ Ok tt = search rules in
+    rw handed_on at
+    (counts_said
+    (syncing_then fine c.sync.ensures.ran c.once.ensures.ran
+    (leads_synced c.sync.ensures.ran.leads
+    (leads_from (stays_contents c.sync.ensures.ran.leads) c.once.ensures.ran.leads)))
+    done c.say.ensures.spoke)
