@@ -1,0 +1,15 @@
+mod Calls
+mod Deepest
+mod Finishing
+mod Fronts
+mod Inserting
+mod Keys
+mod Moves
+mod Octants
+mod Passing
+mod Puts
+mod Reading
+mod Refusing
+mod Roots
+mod Sorted
+mod Tops

@@ -1,0 +1,5 @@
+pub mod Errors
+pub mod Fronts
+pub mod Refusals
+pub mod Builds
+pub mod Passes
