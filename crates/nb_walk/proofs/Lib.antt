@@ -8,3 +8,11 @@ mod Pulling
 mod Stepping
 mod Courses
 mod Remaining
+mod Tallies
+mod Takes
+mod Walking
+mod Runs
+mod Names
+mod Pools
+mod OnTheirWay
+pub mod Callers

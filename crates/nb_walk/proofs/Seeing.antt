@@ -14,7 +14,7 @@ use Rattle.nb_record.specs.declared.answer.Look.TheVariants.{Found, Next, Wants,
 use Rattle.nb_record.specs.declared.tree.Tree.{Tree}
 use Rattle.nb_record.specs.Pages.{read_cell_page}
 use Rattle.nb_record.specs.Records.{cell_record, cell_of, cells_of, IsCell}
-use Rattle.nb_record.specs.Looking.{place_of_key, IsLook, IsLookAt, IsLookOn}
+use Rattle.nb_record.specs.Looking.{index_of_key, IsLook, IsLookAt, IsLookOn}
 use Rattle.nb_record.specs.Cells.{tree_cells, IsTreeCell}
 use Rattle.nb_record.specs.Table.{next_of, chain, cells_on_chain, IsCellTable}
 use Rattle.nb_record.specs.Tree.{IsTreeOf}
@@ -34,30 +34,30 @@ module _ {X : Type 0} where
       (All-cons P x xs (All-head P x (xs ++ ys) all) rest.0, rest.1)
 
 -- record i of a page is one of its cells
-on_page : (bytes : List ℕ) (key i : ℕ) → place_of_key key bytes ≡ Some i → Contains (cells_of bytes) (cell_of (cell_record i bytes))
+on_page : (bytes : List ℕ) (key i : ℕ) → index_of_key key bytes ≡ Some i → Contains (cells_of bytes) (cell_of (cell_record i bytes))
 on_page bytes key i is =
     let there = cell_at bytes i (key_found bytes key i is).0 in
     (i, slice_get_within (cells_of bytes) i (cell_of (cell_record i bytes)) there, get_or_from_slice_get (cells_of bytes) i (cell_of (cell_record i bytes)) (cell_of (cell_record i bytes)) there)
 
 -- ---- the pages up to a record
 
-pages_here : (file : List ℕ) (key page : ℕ) (pages : List ℕ) (i : ℕ) → place_of_key key (page_of file page) ≡ Some i → pages_up_to file key (page ∷ pages) ≡ 1
+pages_here : (file : List ℕ) (key page : ℕ) (pages : List ℕ) (i : ℕ) → index_of_key key (page_of file page) ≡ Some i → pages_up_to file key (page ∷ pages) ≡ 1
 unfolding pages_up_to
 pages_here file key page pages i is = ap (λ o. cond (is_some o) 1 (suc (pages_up_to file key pages))) is
 
-pages_past : (file : List ℕ) (key page : ℕ) (pages : List ℕ) → place_of_key key (page_of file page) ≡ None → pages_up_to file key (page ∷ pages) ≡ suc (pages_up_to file key pages)
+pages_past : (file : List ℕ) (key page : ℕ) (pages : List ℕ) → index_of_key key (page_of file page) ≡ None → pages_up_to file key (page ∷ pages) ≡ suc (pages_up_to file key pages)
 unfolding pages_up_to
 pages_past file key page pages is = ap (λ o. cond (is_some o) 1 (suc (pages_up_to file key pages))) is
 
 module _ (file : List ℕ) (tree : Tree) (key page i : ℕ) (leads : LeadsOn file tree.pages) (within : page < tree.pages) where
-  pub one_page : place_of_key key (page_of file page) ≡ Some i → pages_to file tree key page ≡ 1
+  pub one_page : index_of_key key (page_of file page) ≡ Some i → pages_to file tree key page ≡ 1
   one_page is =
       elim (cases_eq (next_of file page) 0) [
         | inl none ↦ ap (pages_up_to file key) (chain_ends file tree.pages page within none) ∙ pages_here file key page [] i is
         | inr some ↦ ap (pages_up_to file key) (chain_follows file tree.pages page leads within some) ∙ pages_here file key page (chain file tree.pages (next_of file page)) i is
       ]
 
-  pub more_pages : place_of_key key (page_of file page) ≡ None → next_of file page ≢ 0 → pages_to file tree key page ≡ suc (pages_to file tree key (next_of file page))
+  pub more_pages : index_of_key key (page_of file page) ≡ None → next_of file page ≢ 0 → pages_to file tree key page ≡ suc (pages_to file tree key (next_of file page))
   more_pages is some = ap (pages_up_to file key) (chain_follows file tree.pages page leads within some) ∙ pages_past file key page (chain file tree.pages (next_of file page)) is
 
 -- ---- what is seen
@@ -74,7 +74,7 @@ Seen params bodies tree file key page Gone = ⊥
 Seen params bodies tree file key page (Bad bad) = ⊥
 
 module _ (params : Params) (bodies : List Body) (tree : Tree) (file : List ℕ) (table : IsCellTable file tree.bits tree.pages (tree_cells params bodies)) where
-  seen_found : (key page i : ℕ) → IsCellItem params bodies tree file key page → place_of_key key (page_of file (chain_page tree.bits key page)) ≡ Some i
+  seen_found : (key page i : ℕ) → IsCellItem params bodies tree file key page → index_of_key key (page_of file (chain_page tree.bits key page)) ≡ Some i
       → Seen params bodies tree file key page (Found (cell_of (cell_record i (page_of file (chain_page tree.bits key page)))))
   seen_found key page i item is =
       let at = chain_page tree.bits key page in
@@ -91,7 +91,7 @@ module _ (params : Params) (bodies : List Body) (tree : Tree) (file : List ℕ) 
       let at_level : IsKeyAt (level_of key) cell.key = subst (IsKeyAt (level_of key)) (item.key_is ∙ sym found.1) item.is.key in
       (found.1, at_its_level params (in_box bodies) (level_of key) cell in_tree at_level, one_page file tree key at i leads item.within is)
 
-  seen_next : (key page : ℕ) → IsCellItem params bodies tree file key page → place_of_key key (page_of file (chain_page tree.bits key page)) ≡ None
+  seen_next : (key page : ℕ) → IsCellItem params bodies tree file key page → index_of_key key (page_of file (chain_page tree.bits key page)) ≡ None
       → (next_of file (chain_page tree.bits key page) ≡ 0 → ⊥) × (next_of file (chain_page tree.bits key page) ≢ 0 → Seen params bodies tree file key page (Next (next_of file (chain_page tree.bits key page))))
   seen_next key page item is =
       let at = chain_page tree.bits key page in
@@ -130,10 +130,10 @@ module _ (params : Params) (bodies : List Body) (tree : Tree) (file : List ℕ) 
       let at = chain_page tree.bits key page in
       let theirs = same bytes refl in
       let read : read_cell_page at bytes ≡ Ok bytes = subst (λ b. read_cell_page at b ≡ Ok b) (sym theirs) ((cells_checked at (page_of file at)).1 (table.forms at item.within)) in
-      let looked : IsLookOn at bytes (place_of_key key bytes) look = subst (λ r. IsLookAt key at r look) read is in
-      seen_on key page look item (place_of_key key (page_of file at)) refl (subst (λ b. IsLookOn at b (place_of_key key b) look) theirs looked)
+      let looked : IsLookOn at bytes (index_of_key key bytes) look = subst (λ r. IsLookAt key at r look) read is in
+      seen_on key page look item (index_of_key key (page_of file at)) refl (subst (λ b. IsLookOn at b (index_of_key key b) look) theirs looked)
     where
-      seen_on : (key page : ℕ) (look : Look) (item : IsCellItem params bodies tree file key page) (place : Option ℕ) → place_of_key key (page_of file (chain_page tree.bits key page)) ≡ place
+      seen_on : (key page : ℕ) (look : Look) (item : IsCellItem params bodies tree file key page) (place : Option ℕ) → index_of_key key (page_of file (chain_page tree.bits key page)) ≡ place
           → IsLookOn (chain_page tree.bits key page) (page_of file (chain_page tree.bits key page)) place look → Seen params bodies tree file key page look
       seen_on key page look item (Some i) there (inl found) = subst (Seen params bodies tree file key page) (sym found.1) (seen_found key page i item there)
       seen_on key page look item (Some i) there (inr bad) =

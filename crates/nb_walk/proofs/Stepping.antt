@@ -17,7 +17,7 @@ use Rattle.nb_record.specs.Order.{by_key, sorted_by}
 use Rattle.nb_record.specs.Cells.{in_cell}
 use Rattle.nb_record.specs.declared.sizes.TheConstants.{BODIES_PER_PAGE}
 use Rattle.nb_record.specs.Tree.{IsTreeOf}
-use Rattle.nb_record.proofs.Callers.{bodies_checked, page_within, place_within, length-sorted_by}
+use Rattle.nb_record.proofs.Callers.{bodies_checked, page_within, index_within, length-sorted_by}
 use Rattle.nb_model.proofs.Facts.{length-filter-le}
 use Rattle.nb_host.specs.Page.{page_of}
 use Rattle.nb_walk.specs.declared.item.Item.{Item}
@@ -156,7 +156,7 @@ body_here params tree files bodies cells_shown bodies_shown from bytes of_tree s
     let theirs = shows.body (from / BODIES_PER_PAGE) bytes shown in
     let checked = (bodies_checked (from / BODIES_PER_PAGE) (page_of (files tree.bodies) (from / BODIES_PER_PAGE))).1 (held.pages (from / BODIES_PER_PAGE) page) in
     let counts = held.counts (from / BODIES_PER_PAGE) page in
-    let place = place_within (length order) from within in
+    let place = index_within (length order) from within in
     subst (λ b. HasBody b (from / BODIES_PER_PAGE) (from % BODIES_PER_PAGE) (slice_get order from)) (sym theirs)
     (record { checked = checked; within = omega arith; form = held.records from within; is = held.held from within })
 

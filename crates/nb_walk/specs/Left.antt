@@ -10,7 +10,7 @@ use Rattle.nb_host.specs.Page.{page_of}
 use Rattle.nb_record.specs.declared.cell.Cell.{Cell}
 use Rattle.nb_record.specs.declared.sizes.TheConstants.{BODIES_PER_PAGE}
 use Rattle.nb_record.specs.declared.tree.Tree.{Tree}
-use Rattle.nb_record.specs.Looking.{place_of_key}
+use Rattle.nb_record.specs.Looking.{index_of_key}
 use Rattle.nb_record.specs.Cells.{first_body, tree_cells, IsTreeCell}
 use Rattle.nb_record.specs.Table.{chain, cells_on_chain}
 use Rattle.nb_walk.specs.declared.item.Item.{Item}
@@ -22,7 +22,7 @@ use Rattle.nb_walk.specs.Items.{chain_page, bodies_under}
 unfoldable pub pages_up_to : List ℕ → ℕ → List ℕ → ℕ
 pages_up_to file key [] = 0
 pages_up_to file key (page ∷ pages) =
-    if is_some (place_of_key key (page_of file page)) then 1 else suc (pages_up_to file key pages)
+    if is_some (index_of_key key (page_of file page)) then 1 else suc (pages_up_to file key pages)
 
 -- the same from this page of the key's chain on
 abbrev pub pages_to : List ℕ → Tree → ℕ → ℕ → ℕ

@@ -6,3 +6,8 @@ pub mod Left
 pub mod Shown
 pub mod Sight
 pub mod Course
+pub mod Page
+pub mod Walk
+pub mod Taking
+pub mod Running
+pub mod Pool

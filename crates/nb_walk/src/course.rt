@@ -102,7 +102,7 @@ impl<O: Opening> Course<O> {
 }
 
 /// Takes the next item.
-fn take_last(items: &mut Items) -> Option<Item>
+pub(crate) fn take_last(items: &mut Items) -> Option<Item>
     ensures items { items.old.items ≡ items.new.items ++ option_to_list result }
     ensures empty { result ≡ None → length items.old.items ≡ 0 }
 {

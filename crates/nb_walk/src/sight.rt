@@ -25,7 +25,7 @@ pub(crate) enum Sight<'a> {
 }
 
 /// The page at which a cell's chain is looked at, where 0 stands for its first.
-fn page_at(bits: u32, key: Key, page: u64) -> u64
+pub(crate) fn page_at(bits: u32, key: Key, page: u64) -> u64
     requires { bits ≤ 18 }
     ensures { result ≡ chain_page bits key page }
 {

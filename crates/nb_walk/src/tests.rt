@@ -14,6 +14,8 @@ use nb_record::{
 };
 use std::test::Fail;
 
+mod pools;
+
 /// The first page of a file of cells and of a file of bodies, each shown or not.
 #[derive(Drop)]
 struct Pages<'a> {

@@ -1,0 +1,225 @@
+//! Walks that wait for their pages together.
+
+ghost use Rattle.std.specs.Prelude.{◌≡◌, ◌≢◌, ℕ, List, Option, ◌+◌, ◌<◌, ◌≤◌, ◌↔◌, true, false, IsTrue, None, Ok, Err, [], ◌∷◌, ◌++◌, length, map, slice_get, Some, Contains, vec_len, vec_capacity, All, OnOk, OnErr, IsOk, IfOk};
+ghost use Rattle.nb_model.specs.Valid.{IsInBox};
+ghost use Rattle.nb_host.specs.declared.page_name.PageName.{PageName as Names};
+ghost use Rattle.nb_host.specs.Page.{IsRising};
+ghost use Rattle.nb_model.specs.declared.body.Body.{Body as Bodies};
+ghost use Rattle.nb_record.specs.Tree.{IsTreeOf};
+ghost use Rattle.nb_walk.specs.Shown.{IsWalkable, Shows};
+ghost use Rattle.nb_walk.specs.Running.{HasRun, HasSettled, Each, OneWaits, IsNext};
+ghost use Rattle.nb_walk.specs.Page.{IsPageOf, IsLookedAt};
+ghost use Rattle.nb_walk.specs.Walk.{new_walk, IsInRange, IsWalkOn};
+ghost use Rattle.nb_walk.specs.Pool.{unasked, all_unasked, waiting, targets, sums, AreInRange, AreWithin, AreFinished, IsSettled, SomeWaits, IsNeeded, IsWanted, pool_fuel, CanGoOn, IsAdvanced, PoolOnTree};
+
+use crate::walk::Walk;
+use nb_host::PageName;
+use nb_model::{At, NoMemory, Params, V3};
+use nb_record::{Lender, Tree};
+use std::alloc::Global;
+use std::marker::Model;
+
+/// Walks over one tree, in the order in which they were begun, and the pages that they wait for. Its memory
+/// is taken once.
+#[derive(Drop)]
+pub struct Pool {
+    /// For how many walks there is room.
+    room: usize,
+    walks: Vec<Walk>,
+    /// The names of the needed pages, where `asked`.
+    wants: Vec<PageName>,
+    /// Whether an advance was the last call that changed the walks, and found no damage.
+    asked: bool,
+}
+
+impl Model for Pool {
+    ghost use Rattle.std.specs.Prelude.{◌≤◌, map, vec_len, vec_capacity};
+    ghost use Rattle.nb_walk.specs.Pool.{PoolValue, waiting};
+
+    ghost Value = { PoolValue };
+
+    ghost view = { λ p. record {
+      room = p.room;
+      walks = map (waiting p.asked) p.walks.items;
+      wants = p.wants.items;
+    } };
+
+    ghost invariant = { λ p.
+        (vec_len p.walks ≤ p.room) × (p.room ≤ vec_capacity p.walks) × (p.room ≤ vec_capacity p.wants)
+        × (1 ≤ p.room) × (p.room ≤ 1024) };
+}
+
+impl Pool {
+    /// A pool without walks, with room for so many, 1 to 1024.
+    pub fn new(alloc: Global, walks: usize) -> Result<Pool, NoMemory>
+        requires some { 1 ≤ walks }
+        requires few { walks ≤ 1024 }
+        ensures { IfOk result (λ pool. pool ≡ record { room = walks; walks = []; wants = [] }) }
+    {
+        let room = walks;
+        let walks = Vec::with_capacity(alloc, room)?;
+        let wants = Vec::with_capacity(alloc, room)?;
+        Ok(Pool {
+            room,
+            walks,
+            wants,
+            asked: false,
+        })
+    }
+
+    /// For how many walks the pool has room, 1 to 1024.
+    pub fn walks(&self) -> usize
+        ensures room { result ≡ self.now.room }
+        ensures least { 1 ≤ result }
+        ensures most { result ≤ 1024 }
+    {
+        self.room
+    }
+
+    /// How many walks were begun since the last `clear`.
+    pub fn len(&self) -> usize
+        ensures length { result ≡ length self.now.walks }
+        ensures room { result ≤ self.now.room }
+    {
+        self.walks.len()
+    }
+
+    /// Drops all walks.
+    pub fn clear(&mut self)
+        ensures { self.new ≡ record { room = self.old.room; walks = []; wants = [] } }
+    {
+        self.walks.clear();
+        self.wants.clear();
+        self.asked = false;
+    }
+
+    /// Begins a walk for a target in the box, in box units. It is the last in the pool's order.
+    pub fn begin(&mut self, target: At)
+        requires target { IsInBox target }
+        requires room { length self.old.walks < self.old.room }
+        ensures { self.new ≡ record {
+          room = self.old.room;
+          walks = all_unasked self.old.walks ++ unasked (new_walk target) ∷ [];
+          wants = [];
+        } }
+    {
+        let _ = self.walks.push(Walk::start(target));
+        self.wants.clear();
+        self.asked = false;
+    }
+
+    /// Has each walk visit until it waits or is finished, and answers whether all are finished. Err comes
+    /// with the name of a page that is shown and isn't the tree's.
+    pub fn advance<L: Lender>(
+        &mut self,
+        params: &Params,
+        tree: &Tree,
+        lender: &L,
+    ) -> Result<bool, PageName>
+        requires tree { IsWalkable params.now tree.now }
+        requires range { AreInRange params.now self.old.walks }
+        ensures room { self.new.room ≡ self.old.room }
+        ensures targets { targets self.new.walks ≡ targets self.old.walks }
+        ensures range { AreInRange params.now self.new.walks }
+        ensures within { AreWithin tree.now.mass self.old.walks → AreWithin tree.now.mass self.new.walks }
+        ensures settled { OnOk result
+            (All (IsSettled (L.cells lender.now) (L.bodies lender.now) tree.now) self.new.walks) }
+        ensures answer { IfOk result (λ done. IsTrue done ↔ AreFinished self.new.walks) }
+        ensures waits { result ≡ Ok false → SomeWaits self.new.walks }
+        ensures wants { OnOk result (IsWanted tree.now self.new.walks self.new.wants) }
+        ensures damaged { (name : Names) → result ≡ Err name
+            → IsLookedAt (L.cells lender.now) (L.bodies lender.now) tree.now name }
+        ensures unasked { OnErr result (self.new.walks ≡ all_unasked self.new.walks) }
+        ensures none { OnErr result (self.new.wants ≡ []) }
+        ensures fuel { pool_fuel tree.now self.new.walks ≤ pool_fuel tree.now self.old.walks }
+        ensures lower { CanGoOn (L.cells lender.now) (L.bodies lender.now) tree.now self.old.walks
+            → OnOk result (pool_fuel tree.now self.new.walks < pool_fuel tree.now self.old.walks) }
+        ensures sound { PoolOnTree params.now tree.now (L.cells lender.now) (L.bodies lender.now)
+            self.old.walks (λ bodies file. IsOk result) }
+        ensures tree { PoolOnTree params.now tree.now (L.cells lender.now) (L.bodies lender.now)
+            self.old.walks (λ bodies file. IsAdvanced (L.cells lender.now) (L.bodies lender.now)
+            params.now bodies tree.now file self.old.walks self.new.walks) }
+    {
+        self.wants.clear();
+        self.asked = false;
+        let done = run_all(&mut self.walks, params, tree, lender)?;
+        gather(&self.walks, tree, &mut self.wants);
+        sort_names(&mut self.wants);
+        self.asked = true;
+        Ok(done)
+    }
+
+    /// The names of the pages that the walks wait for, as the last `advance` found them: rising, each once.
+    /// There are none where it answered Err, and after a `begin` or a `clear`.
+    pub fn wants(&self) -> &[PageName]
+        ensures { result.now ≡ self.now.wants }
+    {
+        &self.wants
+    }
+
+    /// The sum of walk i, from 0, in the order in which they were begun since the last `clear`.
+    pub fn sum(&self, i: usize) -> V3
+        requires { i < length self.now.walks }
+        ensures { slice_get (sums self.now.walks) i ≡ Some result }
+    {
+        self.walks[i].sum()
+    }
+}
+
+/// Has each walk visit until it waits or is finished, and tells whether all are finished.
+fn run_all<L: Lender>(
+    walks: &mut [Walk],
+    params: &Params,
+    tree: &Tree,
+    lender: &L,
+) -> Result<bool, PageName>
+    requires tree { IsWalkable params.now tree.now }
+    requires range { All (λ w. IsInRange params.now w) walks.old }
+    ensures each { Each (HasRun (L.cells lender.now) (L.bodies lender.now) params.now tree.now)
+        (length walks.old) walks.old walks.new }
+    ensures settled { OnOk result (Each
+        (HasSettled (L.cells lender.now) (L.bodies lender.now) params.now tree.now)
+        (length walks.old) walks.old walks.new) }
+    ensures finished { result ≡ Ok true → All (λ w. w.items ≡ []) walks.new }
+    ensures waits { result ≡ Ok false
+        → OneWaits (L.cells lender.now) (L.bodies lender.now) tree.now walks.new }
+    ensures damaged { (name : Names) → result ≡ Err name
+        → IsLookedAt (L.cells lender.now) (L.bodies lender.now) tree.now name }
+    ensures sound { (files : ℕ → List ℕ) (bodies : List Bodies) → IsTreeOf tree.now files params.now bodies
+        → All (λ b. IsInBox b.at) bodies → Shows (L.cells lender.now) (L.bodies lender.now) tree.now files
+        → All (λ w. IsWalkOn params.now bodies tree.now (files tree.now.cells) w) walks.old → IsOk result }
+{
+    let mut done = true;
+    for walk in walks.iter_mut() {
+        if !walk.run(params, tree, lender)? {
+            done = false;
+        }
+    }
+    Ok(done)
+}
+
+/// The names of the pages of the walks' next items, each as often as there are such walks.
+fn gather(walks: &[Walk], tree: &Tree, wants: &mut Vec<PageName>)
+    requires bits { tree.now.bits ≤ 18 }
+    requires empty { wants.old.items ≡ [] }
+    requires room { length walks.now ≤ vec_capacity wants.old }
+    ensures names { (name : Names) → Contains wants.new.items name ↔ IsNext tree.now walks.now name }
+    ensures pages { All (IsPageOf tree.now) wants.new.items }
+    ensures capacity { vec_capacity wants.old ≤ vec_capacity wants.new }
+{
+    for walk in walks {
+        if let Some(name) = walk.needed(tree) {
+            let _ = wants.push(name);
+        }
+    }
+}
+
+/// Puts names into their order, each once.
+fn sort_names(names: &mut Vec<PageName>)
+    ensures rising { IsRising names.new.items }
+    ensures same { (name : Names) → Contains names.new.items name ↔ Contains names.old.items name }
+    ensures capacity { vec_capacity names.new ≡ vec_capacity names.old }
+{
+    names.sort_unstable();
+    names.dedup();
+}
