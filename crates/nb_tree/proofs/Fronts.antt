@@ -101,18 +101,20 @@ module _ {file : List ℕ} {count : ℕ} {front : List Body} (is : IsFront file 
       (λ _. subst (λ (b : Body). precedes by_key b (body_of (record_of file (place + 1))) ≡ true) before
       (subst (λ (b : Body). precedes by_key a b ≡ true) body follows))
 
--- a body that doesn't follow the one before it is misplaced
-pub unfollowed : {file : List ℕ} {count : ℕ} (number place : ℕ) (a : Body) (next : Option Ahead) → a ≡ body_of (record_of file place)
+-- a body that doesn't follow the one before it is misplaced, and is the first where all before it are in order
+pub unfollowed : {file : List ℕ} {count : ℕ} (number place : ℕ) (a : Body) (next : Option Ahead) → ((j : ℕ) → j ≤ place → IsInOrder file j)
+    → a ≡ body_of (record_of file place)
     → IfSome next (λ _. place + 1 < count) → IfSome next (λ n. n.body ≡ body_of (record_of file (place + 1))) → (Follows a next → ⊥)
     → IsMisplaced number count file (page_of_body number (place + 1))
-unfollowed number place a None there some body fails = absurd (fails tt)
-unfollowed {file = file} number place a (Some n) there some body fails =
+unfollowed number place a None first there some body fails = absurd (fails tt)
+unfollowed {file = file} number place a (Some n) first there some body fails =
     let back : place + 1 - 1 ≡ place = omega arith in
     let before : a ≡ body_of (record_of file (place + 1 - 1)) = there ∙ ap (λ j. body_of (record_of file j)) (sym back) in
     record {
       index = place + 1;
       below = some;
       page = refl;
+      first = λ j below. first j (omega arith);
       cause = λ order. fails
           (subst (λ (b : Body). precedes by_key a b ≡ true) (sym body)
           (subst (λ (b : Body). precedes by_key b (body_of (record_of file (place + 1))) ≡ true) (sym before) (order.after (omega arith))));
@@ -129,11 +131,42 @@ held_ahead file index None ahead inside body n is = absurd (let none : None ≡ 
 held_ahead file index (Some m) ahead inside body n is =
     subst (λ (k : Ahead). k.body ≡ body_of (record_of file index)) (some_inside m n m.body.out (sym inside ∙ is)) body
 
+-- the first body that was read is in order
+pub order_first : (file : List ℕ) (read ahead : Option Ahead) → ahead ≡ inside_of read → IfSome read (λ _. HasBody file 0)
+    → (n : Ahead) → ahead ≡ Some n → (j : ℕ) → j ≤ 0 → IsInOrder file j
+order_first file None ahead inside has n is j none = absurd (let never : None ≡ Some n = sym inside ∙ is in cc)
+order_first file (Some m) ahead inside has n is j none =
+    let zero : 0 ≡ j = omega arith in
+    subst (IsInOrder file) zero (record { has = has; after = λ before. absurd (omega arith) })
+
+-- one that follows the body ahead is too
+pub order_next : (file : List ℕ) (place : ℕ) (a : Body) (read ahead : Option Ahead) → a ≡ body_of (record_of file place)
+    → ahead ≡ inside_of read → IfSome read (λ _. HasBody file (place + 1))
+    → IfSome read (λ n. n.body ≡ body_of (record_of file (place + 1))) → Follows a read
+    → ((j : ℕ) → j ≤ place → IsInOrder file j) → (n : Ahead) → ahead ≡ Some n → (j : ℕ) → j ≤ place + 1 → IsInOrder file j
+order_next file place a None ahead there inside has body follows before n is j within =
+    absurd (let never : None ≡ Some n = sym inside ∙ is in cc)
+order_next file place a (Some m) ahead there inside has body follows before n is j within = elim (cases_lt j (place + 1)) [
+  | inl below ↦ before j (omega arith)
+  | inr from ↦
+      let last : place + 1 ≡ j = omega arith in
+      let back : place + 1 - 1 ≡ place = omega arith in
+      let earlier : a ≡ body_of (record_of file (place + 1 - 1)) = there ∙ ap (λ j. body_of (record_of file j)) (sym back) in
+      subst (IsInOrder file) last (record {
+        has = has;
+        after = λ _.
+            subst (λ (b : Body). precedes by_key b (body_of (record_of file (place + 1))) ≡ true) earlier
+            (subst (λ (b : Body). precedes by_key a b ≡ true) body follows);
+      })
+]
+
 -- a clause that holds where the host tells
 pub told_some : {T : Type 0} {X : Type 0} (P : X → Type 0) (next : Option X) → T → IfSome next (λ x. T → P x) → IfSome next P
 told_some P None told is = tt
 told_some P (Some x) told is = is told
 
-pub missing : (number count index : ℕ) (file : List ℕ) (name : PageName) → name ≡ page_of_body number index → index < count → (HasBody file index → ⊥)
+pub missing : (number count index : ℕ) (file : List ℕ) (name : PageName) → name ≡ page_of_body number index → index < count
+    → ((j : ℕ) → j < index → IsInOrder file j) → (HasBody file index → ⊥)
     → IsMisplaced number count file name
-missing number count index file name page below none = record { index = index; below = below; page = page; cause = λ order. none order.has }
+missing number count index file name page below first none =
+    record { index = index; below = below; page = page; first = first; cause = λ order. none order.has }

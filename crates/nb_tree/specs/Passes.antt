@@ -16,6 +16,7 @@ use Rattle.nb_record.specs.Order.{by_key, precedes, record_of}
 use Rattle.nb_record.specs.Cells.{first_body, in_cell, kids_of}
 use Rattle.nb_record.specs.Table.{IsCellTable}
 use Rattle.nb_record.specs.Writing.{IsZeroPaddedFile}
+use Rattle.nb_tree.specs.Fronts.{IsInOrder}
 use Rattle.nb_tree.specs.declared.sums.Sums.{Sums}
 use Rattle.nb_tree.specs.declared.closed.Closed.{Closed}
 use Rattle.nb_tree.specs.declared.reader.Ahead.{Ahead}
@@ -67,9 +68,10 @@ pub record Reads (old new : Reader) (n : ℕ) : Type 0 where
 abbrev pub IsAt : List Body → Reader → Type 0
 IsAt bodies r = body_ahead r.ahead ≡ slice_get bodies r.place
 
--- the body ahead is that of the file at the reader's place
-abbrev pub IsHeld : List ℕ → Reader → Type 0
-IsHeld file r = (next : Ahead) → r.ahead ≡ Some next → next.body ≡ body_of (record_of file r.place)
+-- the body ahead is that of the file at the reader's place, and each one up to it is in order
+pub record IsHeld (file : List ℕ) (r : Reader) : Type 0 where
+  pub body : (next : Ahead) → r.ahead ≡ Some next → next.body ≡ body_of (record_of file r.place)
+  pub order : (next : Ahead) → r.ahead ≡ Some next → (j : ℕ) → j ≤ r.place → IsInOrder file j
 
 -- ---- sums, and a cell that is closed
 

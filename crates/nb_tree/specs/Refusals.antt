@@ -12,11 +12,12 @@ use Rattle.nb_record.specs.Order.{by_key, IsSortedByRank, HoldsBodies}
 use Rattle.nb_order.specs.Files.{page_of_body}
 use Rattle.nb_tree.specs.Fronts.{IsInOrder, IsFront}
 
--- the page is that of an index below `count` whose body doesn't stand in the file, or doesn't follow the one before it
+-- the page is that of the first index below `count` whose body doesn't stand in the file, or doesn't follow the one before it
 pub record IsMisplaced (number count : ℕ) (file : List ℕ) (name : PageName) : Type 0 where
   pub index : ℕ
   pub below : index < count
   pub page : name ≡ page_of_body number index
+  pub first : (j : ℕ) → j < index → IsInOrder file j
   pub cause : IsInOrder file index → ⊥
 
 -- The bodies in the box are too heavy, whatever front of the file they are. No page is the cause, and the file's first one stands for

@@ -69,6 +69,7 @@ pub(crate) fn pass<H: Host>(
     ensures named { (name : PageNames) → result ≡ Err (TreeError.Damaged name)
         → (name.file ≡ reader.old.file) ⊎ (name.file ≡ maker.old.table.file) }
     ensures held { OnOk result (IsTrue H.meaning.tells
+        → IsHeld (seen H.meaning cache.old host.old reader.old.file) reader.old
         → IsHeld (seen H.meaning cache.old host.old reader.old.file) reader.new) }
     ensures damaged { (name : PageNames) → result ≡ Err (TreeError.Damaged name) → IsTrue H.meaning.tells
         → IsHeld (seen H.meaning cache.old host.old reader.old.file) reader.old
@@ -138,6 +139,7 @@ fn add_bodies<H: Host>(
     ensures named { (name : PageNames) → result ≡ Err (TreeError.Damaged name)
         → name.file ≡ reader.old.file }
     ensures held { OnOk result (IsTrue H.meaning.tells
+        → IsHeld (seen H.meaning cache.old host.old reader.old.file) reader.old
         → IsHeld (seen H.meaning cache.old host.old reader.old.file) reader.new) }
     ensures damaged { (name : PageNames) → result ≡ Err (TreeError.Damaged name) → IsTrue H.meaning.tells
         → IsHeld (seen H.meaning cache.old host.old reader.old.file) reader.old

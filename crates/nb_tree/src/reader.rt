@@ -96,6 +96,7 @@ impl Reader {
             → IsFront (seen H.meaning cache.old host.old self.old.file) self.old.count front
             → IsAt front self.old → IsAt front self.new) }
         ensures held { OnOk result (IsTrue H.meaning.tells
+            → IsHeld (seen H.meaning cache.old host.old self.old.file) self.old
             → IsHeld (seen H.meaning cache.old host.old self.old.file) self.new) }
         ensures named { (name : PageNames) → result ≡ Err (TreeError.Damaged name)
             → name.file ≡ self.old.file }

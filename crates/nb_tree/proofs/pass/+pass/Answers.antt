@@ -64,7 +64,6 @@ loop-octant-init g t c =
       goes = goes_none g.H.Host.meaning (c.args.maker.now.table.file ∷ []) c.args.cache.now c.args.host.now c.requires.in_step;
       at = λ tells front fronts at. at;
       held = λ tells held. held;
-      moved = λ tells other. absurd (other count);
       read = λ tells params front leaf fronts at first.
           subst (λ l. IsReadTo params front c.args.depth c.args.key c.args.reader.now.place c.none-sums.result 0 (cells_closed l)
           (seen g.H.Host.meaning c.args.cache.now c.args.host.now c.args.maker.now.table.file) c.args.maker.now
@@ -180,9 +179,8 @@ loop-octant-preserved g t c =
           kid.at tells front (front_on inv.reads before now (same_file file inv.goes (other_file c.requires.apart) tells) fronts)
           (inv.at tells front fronts at);
       held = λ tells held.
-          held_back inv.reads kid.reads before now (same_file file inv.goes (other_file c.requires.apart) tells) (kid.held tells);
-      moved = λ tells other.
-          held_back inv.reads kid.reads before now (same_file file inv.goes (other_file c.requires.apart) tells) (kid.held tells);
+          let same = same_file file inv.goes (other_file c.requires.apart) tells in
+          held_back inv.reads kid.reads before now same (kid.held tells (held_on inv.reads before now same (inv.held tells held)));
       read = λ tells params front leaf fronts at first.
           let same = same_file file inv.goes (other_file c.requires.apart) tells in
           let here = inv.at tells front fronts at in
@@ -296,7 +294,4 @@ returns-clause-ran g t c =
     (λ faulted. absurd (cc))
 
 pub returns-clause-held : goal.returns-clause-held
-returns-clause-held g t c = λ tells.
-    let inv = c.loop-octant.invariant in
-    let level : 21 - c.args.depth ≡ 20 - (c.args.depth - 1) = (let some : 0 < c.args.depth = (let other = c.if-depth-eq0.false in omega arith) in omega (arith, some)) in
-    inv.moved tells (λ none. c.in_default.ensures.none (subst (λ l. LiesIn l c.args.key c.loop-octant.reader) level (inv.some none)))
+returns-clause-held g t c = λ tells held. c.loop-octant.invariant.held tells held

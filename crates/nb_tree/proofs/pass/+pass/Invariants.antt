@@ -27,8 +27,6 @@ invariant-loop-octant g l = record {
       → IsAt front l.fn.reader → IsAt front l.reader;
   held : IsTrue g.H.Host.meaning.tells → IsHeld (seen g.H.Host.meaning l.fn.cache l.fn.host l.fn.reader.file) l.fn.reader
       → IsHeld (seen g.H.Host.meaning l.fn.cache l.fn.host l.fn.reader.file) l.reader;
-  moved : IsTrue g.H.Host.meaning.tells → l.sums.count ≢ 0
-      → IsHeld (seen g.H.Host.meaning l.fn.cache l.fn.host l.fn.reader.file) l.reader;
   read : IsTrue g.H.Host.meaning.tells → (params : Params) (front : List Body) → params.leaf ≡ l.fn.maker.leaf
       → IsFront (seen g.H.Host.meaning l.fn.cache l.fn.host l.fn.reader.file) l.fn.reader.count front
       → IsAt front l.fn.reader → first_body front (in_cell (21 - l.depth) l.key front) ≡ l.fn.reader.place

@@ -43,9 +43,8 @@ loop-key-preserved g c =
           (front_on inv.reads before now (same_file file inv.goes (no_file file) tells) fronts)
           (inv.at tells front fronts at);
       held = λ tells held.
-          held_back inv.reads one before now (same_file file inv.goes (no_file file) tells) (c.in_ok-body.ensures.held tells);
-      moved = λ tells some.
-          held_back inv.reads one before now (same_file file inv.goes (no_file file) tells) (c.in_ok-body.ensures.held tells);
+          let same = same_file file inv.goes (no_file file) tells in
+          held_back inv.reads one before now same (c.in_ok-body.ensures.held tells (held_on inv.reads before now same (inv.held tells held)));
       sums = λ tells front fronts at first.
           let here = inv.at tells front fronts at in
           let next = next_of_lies here lies in
