@@ -5,12 +5,47 @@
 #   group     64 random pages that are resident (all, where there are fewer), fetched together and then looked up; none reads
 #   sweep     a quarter more pages than the cache has, each fetched and looked up, in order and over again; each reads
 #   mix       the same of random pages: 7 of 8 among half as many as the cache has, 1 of 8 among twice as many
+# and a row that pushes 100,000 generated bodies one by one, sorts the file and reads it back through such caches:
+#   push      nanoseconds a push, with the body's making and the flush at the end, and the writes of pages beside the least
+#             possible, each page once, where the bodies are pushed and where they are sorted
 # It builds a small proved program over this checkout's crates in a temporary folder, and leaves nothing. The program takes
 # 1.6 GB of memory.
 set -eu
 . "$(dirname "$0")/small_program.sh"
-stand_on nb_model nb_host nb_cache
-mkdir -p "$bench/proofs/Storage/fetch_group"
+. "$(dirname "$0")/generated_bodies.sh"
+stand_on nb_model nb_key nb_host nb_record nb_cache nb_order
+write_generated
+mkdir -p "$bench/proofs/Storage/fetch_group" "$bench/proofs/Storage/new"
+# The loops over a storage keep its cache in step with its host.
+keep_in_step() {
+    mkdir -p "$bench/proofs/$1"
+    cat >"$bench/proofs/$1/Invariants.antt" <<INVARIANTS
+use Rattle.nb_host.specs.Memory.{contents_of}
+use Rattle.nb_cache.specs.InStep.{Fits}
+use Rattle.bench.proofs.$(echo "$1" | tr / .).Given as goal
+
+abbrev pub invariant-loop$2 : goal.invariant-loop$2
+invariant-loop$2 l = Fits l.$3.cache (contents_of l.$3.host)
+INVARIANTS
+}
+mkdir -p "$bench/proofs/read_back" "$bench/proofs/measure_pushes"
+cat >"$bench/proofs/read_back/Invariants.antt" <<'INVARIANTS'
+use Rattle.nb_cache.specs.InStep.{IsInStep}
+use Rattle.bench.proofs.read_back.Given as goal
+
+abbrev pub invariant-loop-index : goal.invariant-loop-index
+invariant-loop-index g l = IsInStep g.H.Host.meaning l.cache l.host
+INVARIANTS
+cat >"$bench/proofs/measure_pushes/Answers.antt" <<'ANSWERS'
+use Rattle.bench.proofs.measure_pushes.Goals as goal
+
+pub push_bodies-requires-clause-in_step : goal.push_bodies-requires-clause-in_step
+push_bodies-requires-clause-in_step c = λ _. c.in_ok-cache.ensures.fits _
+ANSWERS
+keep_in_step Storage/fetch_all -page self
+keep_in_step Storage/fetch_groups -group self
+keep_in_step time '' storage
+keep_in_step fill -page storage
 echo 'pub mod Rising' >"$bench/specs/Lib.antt"
 cat >"$bench/specs/Rising.antt" <<'DEFINITIONS'
 -- Pages of file 3 in rising order.
@@ -28,6 +63,12 @@ pub Rises-prop : (from : ℕ) (names : List PageName) → IsProp (Rises from nam
 Rises-prop from [] = Unit-prop
 Rises-prop from (n ∷ names) = hlevel (ℕ_set, le_prop, Rises-prop (n.page + 1) names)
 DEFINITIONS
+cat >"$bench/proofs/Storage/new/Answers.antt" <<'ANSWERS'
+use Rattle.bench.proofs.Storage.new.Goals as goal
+
+pub returns : goal.returns
+returns c = c.in_ok-cache.ensures.fits _
+ANSWERS
 cat >"$bench/proofs/Storage/fetch_group/Answers.antt" <<'ANSWERS'
 use Rattle.std.proofs.Common.{◌≡◌, ℕ, ◌+◌, ◌<◌, inr, List, [], ◌∷◌, arith, sym, ◌∙◌}
 use Rattle.std.specs.List.{AllByRecursion}
@@ -67,13 +108,18 @@ cat >"$bench/src/main.rt" <<'PROGRAM'
 //! Times look-ups of pages through a cache, in the order of a xorshift generator (Marsaglia 2003).
 #![tactic(auto)]
 
-ghost use Rattle.std.specs.Prelude.{◌≡◌, ◌^◌, ◌<◌, ◌≤◌};
+ghost use Rattle.std.specs.Prelude.{◌≡◌, ◌^◌, ◌<◌, ◌≤◌, IfOk};
 ghost use Rattle.nb_host.specs.Memory.{contents_of};
-ghost use Rattle.nb_cache.specs.InStep.{Fits};
+ghost use Rattle.nb_cache.specs.InStep.{Fits, IsInStep};
 ghost use Rattle.bench.specs.Rising.{Rises, Rises-prop};
 
+mod generated;
+
+use generated::{BODIES, push_bodies, sort_bodies};
 use nb_cache::Cache;
-use nb_host::{MemoryHost, PageName};
+use nb_host::{Host, MemoryHost, PageName};
+use nb_order::body_at;
+use nb_record::BODIES_PER_PAGE;
 use std::alloc::{AllocError, Global};
 use std::test::Fail;
 use std::time::Instant;
@@ -87,6 +133,9 @@ const LOOK_UPS: u32 = 10 * 65536;
 const TRIES: u64 = 5;
 
 const SEED: u64 = 88172645463325252;
+
+/// So many bodies are pushed.
+const COUNT: u64 = 100_000;
 
 #[derive(Drop)]
 struct Random {
@@ -264,12 +313,11 @@ fn bytes_of(alloc: Global, pages: u32) -> Result<Vec<u8>, AllocError>
     Ok(bytes)
 }
 
-/// A file, and a cache that is in step with its host.
+/// A file, and a cache for its host.
 #[derive(Drop)]
 struct Storage {
     host: MemoryHost,
     cache: Cache,
-    ghost in_step: { Fits cache (contents_of host) },
     ghost some: { 1 ≤ cache.pages },
 }
 
@@ -278,6 +326,7 @@ impl Storage {
     fn new(alloc: Global, pages: u32) -> Result<Storage, Fail>
         requires least { 4 ≤ pages }
         requires most { pages ≤ 2 ^ 18 }
+        ensures { IfOk result (λ s. Fits s.cache (contents_of s.host)) }
     {
         let mut host = MemoryHost::new(alloc);
         host.with_file(FILE, &bytes_of(alloc, 2 * pages)?)?;
@@ -292,14 +341,20 @@ impl Storage {
     }
 
     /// Fetches a page and looks it up.
-    fn fetch(&mut self, page: u32) -> Option<u64> {
+    fn fetch(&mut self, page: u32) -> Option<u64>
+        requires { Fits self.old.cache (contents_of self.old.host) }
+        ensures { Fits self.new.cache (contents_of self.new.host) }
+    {
         let name = name_of(page);
         self.cache.fetch(&mut self.host, &[name]).ok()?;
         self.look_up(name)
     }
 
     /// Fetches the pages of a group, looks them up, and answers the sum of their first bytes.
-    fn fetch_group(&mut self, group: &Group) -> Option<u64> {
+    fn fetch_group(&mut self, group: &Group) -> Option<u64>
+        requires { Fits self.old.cache (contents_of self.old.host) }
+        ensures { Fits self.new.cache (contents_of self.new.host) }
+    {
         if group.names.len() > self.cache.pages() {
             return None;
         }
@@ -319,7 +374,10 @@ impl Storage {
         Some(sum)
     }
 
-    fn fetch_all(&mut self, pages: &[u32]) -> Option<u64> {
+    fn fetch_all(&mut self, pages: &[u32]) -> Option<u64>
+        requires { Fits self.old.cache (contents_of self.old.host) }
+        ensures { Fits self.new.cache (contents_of self.new.host) }
+    {
         let mut sum = 0u64;
         for page in pages {
             sum = sum.wrapping_add(self.fetch(*page)?);
@@ -327,7 +385,10 @@ impl Storage {
         Some(sum)
     }
 
-    fn fetch_groups(&mut self, groups: &[Group]) -> Option<u64> {
+    fn fetch_groups(&mut self, groups: &[Group]) -> Option<u64>
+        requires { Fits self.old.cache (contents_of self.old.host) }
+        ensures { Fits self.new.cache (contents_of self.new.host) }
+    {
         let mut sum = 0u64;
         for group in groups {
             sum = sum.wrapping_add(self.fetch_group(group)?);
@@ -336,7 +397,10 @@ impl Storage {
     }
 
     /// Does the work, and answers the sum of the first bytes of all pages that were looked up.
-    fn run(&mut self, work: &Work) -> Option<u64> {
+    fn run(&mut self, work: &Work) -> Option<u64>
+        requires { Fits self.old.cache (contents_of self.old.host) }
+        ensures { Fits self.new.cache (contents_of self.new.host) }
+    {
         match work {
             Work::LookUps(pages) => self.look_all_up(pages),
             Work::Fetches(pages) => self.fetch_all(pages),
@@ -353,7 +417,10 @@ struct Try {
     sum: u64,
 }
 
-fn try_once(rt: &HostRuntime, storage: &mut Storage, work: &Work) -> Result<Try, Fail> {
+fn try_once(rt: &HostRuntime, storage: &mut Storage, work: &Work) -> Result<Try, Fail>
+    requires { Fits storage.old.cache (contents_of storage.old.host) }
+    ensures { Fits storage.new.cache (contents_of storage.new.host) }
+{
     let before = storage.host.reads();
     let start = Instant::now(rt)?;
     let found = storage.run(work);
@@ -366,6 +433,8 @@ fn try_once(rt: &HostRuntime, storage: &mut Storage, work: &Work) -> Result<Try,
 fn time(rt: &HostRuntime, storage: &mut Storage, pattern: Pattern, pages: u32) -> Result<(), Fail>
     requires least { 4 ≤ pages }
     requires most { pages ≤ 2 ^ 18 }
+    requires in_step { Fits storage.old.cache (contents_of storage.old.host) }
+    ensures { Fits storage.new.cache (contents_of storage.new.host) }
 {
     let alloc = rt.alloc();
     let mut random = Random { state: SEED };
@@ -405,24 +474,99 @@ fn tell(rt: &HostRuntime, pattern: Pattern, pages: u32, all: &Try) -> Result<(),
     }
 }
 
+/// Fetches the first pages of the file.
+fn fill(storage: &mut Storage, pages: u32) -> Result<(), Fail>
+    requires { Fits storage.old.cache (contents_of storage.old.host) }
+    ensures { Fits storage.new.cache (contents_of storage.new.host) }
+{
+    for page in 0..pages {
+        storage.fetch(page).ok_or("a page isn't fetched")?;
+    }
+    Ok(())
+}
+
 fn measure(rt: &HostRuntime, pages: u32) -> Result<(), Fail>
     requires least { 4 ≤ pages }
     requires most { pages ≤ 2 ^ 18 }
 {
     let mut storage = Storage::new(rt.alloc(), pages)?;
-    for page in 0..pages {
-        storage.fetch(page).ok_or("a page isn't fetched")?;
-    }
+    fill(&mut storage, pages)?;
     time(rt, &mut storage, Pattern::Resident, pages)?;
     time(rt, &mut storage, Pattern::Group, pages)?;
     time(rt, &mut storage, Pattern::Sweep, pages)?;
     time(rt, &mut storage, Pattern::Mix, pages)
 }
 
+/// Reads the sorted bodies, and answers the sum of their numbers.
+fn read_back<H: Host>(host: &mut H, cache: &mut Cache) -> Result<u64, Fail>
+    requires in_step { IsInStep H.meaning cache.old host.old }
+    ensures { IsInStep H.meaning cache.new host.new }
+{
+    let mut sum = 0u64;
+    for index in 0..COUNT {
+        let body = body_at(host, cache, BODIES, index)?;
+        sum = sum.wrapping_add(body.id);
+    }
+    Ok(sum)
+}
+
+/// How many of a host's calls were no reads. Where bodies are pushed no call asks for a file's length.
+fn writes(host: &MemoryHost) -> u64 {
+    host.calls().wrapping_sub(host.reads())
+}
+
+/// What pushes took and wrote, and what the sort wrote.
+#[derive(Clone, Copy)]
+struct Pushes {
+    nanos: u128,
+    pushed: u64,
+    sorted: u64,
+}
+
+/// Pushes bodies one by one, sorts them and reads them back.
+fn measure_pushes(rt: &HostRuntime, pages: usize) -> Result<(), Fail>
+    requires least { 4 ≤ pages }
+    requires most { pages ≤ 2 ^ 18 }
+{
+    let mut host = MemoryHost::new(rt.alloc());
+    let mut cache = Cache::new(rt.alloc(), pages)?;
+    let start = Instant::now(rt)?;
+    push_bodies(&mut host, &mut cache, COUNT)?;
+    cache.flush(&mut host)?;
+    let nanos = start.elapsed(rt)?.as_nanos();
+    let pushed = writes(&host);
+    sort_bodies(rt.alloc(), &mut host, &mut cache, COUNT)?;
+    cache.flush(&mut host)?;
+    // One call empties the file that is sorted into.
+    let sorted = writes(&host).wrapping_sub(pushed).wrapping_sub(1);
+    if read_back(&mut host, &mut cache)? != COUNT * (COUNT + 1) / 2 {
+        return Err(Fail::new("the bodies that are read back are others"));
+    }
+    tell_pushes(rt, pages, &Pushes { nanos, pushed, sorted })
+}
+
+/// Prints the line of the pushes, and sees that they wrote no more than they must.
+fn tell_pushes(rt: &HostRuntime, pages: usize, pushes: &Pushes) -> Result<(), Fail> {
+    let nanos = pushes.nanos / u128::from(COUNT);
+    let pushed = pushes.pushed;
+    let sorted = pushes.sorted;
+    let least = COUNT.div_ceil(BODIES_PER_PAGE);
+    println!(rt;
+        "push {pages} pages: {nanos}, {pushed} writes and sorted {sorted}, of {least} at least each"
+    )?;
+    if pushed != least || sorted != least {
+        return Err(Fail::new("a page is written more than once"));
+    }
+    Ok(())
+}
+
 fn main(rt: HostRuntime) -> Result<(), Fail> {
+    measure_pushes(&rt, 4)?;
+    measure_pushes(&rt, 256)?;
+    measure_pushes(&rt, 65536)?;
     measure(&rt, 4)?;
     measure(&rt, 256)?;
     measure(&rt, 65536)
 }
 PROGRAM
-run_bench 'resident|group|sweep|mix'
+run_bench 'push|resident|group|sweep|mix'
