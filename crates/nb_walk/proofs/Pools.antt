@@ -251,3 +251,8 @@ pass P shown written old new asked is holds = subst (λ l. P shown l) (sym is.no
 pub on_err : {A E : Type 0} {P : Type 0} (r : Result A E) → P → OnErr r P
 on_err (Ok a) p = tt
 on_err (Err e) p = p
+
+-- the walks of a pool's value are its walks
+pub walks_back : (asked : Bool) (walks : List WalkValue) → map (λ w. w.walk) (map (waiting asked) walks) ≡ walks
+walks_back asked [] = refl
+walks_back asked (w ∷ walks) = ap (λ l. w ∷ l) (walks_back asked walks)

@@ -6,8 +6,10 @@ use Rattle.nb_model.specs.declared.params.Params.{Params}
 use Rattle.nb_host.specs.declared.page_name.PageName.{PageName}
 use Rattle.nb_record.specs.declared.tree.Tree.{Tree}
 use Rattle.nb_walk.specs.Left.{fuel}
+use Rattle.nb_host.specs.declared.page_name.PageName.{PageName}
+use Rattle.nb_walk.specs.Shown.{LooksAt}
 use Rattle.nb_walk.specs.Walk.{WalkValue, IsInRange, IsWithin, OnTree, IsWaiting, CanVisit, RunsTree}
-use Rattle.nb_walk.specs.Running.{HasRun, HasSettled, Each, OneWaits}
+use Rattle.nb_walk.specs.Running.{HasRun, HasSettled, Each, OneWaits, BlamesOne}
 
 -- ---- one place of a list at a time
 
@@ -90,3 +92,9 @@ one_waits cells bodies tree [] k within waits = absurd (omega arith)
 one_waits cells bodies tree (w ∷ ws) k within waits =
     let walk = get_or (w ∷ ws) k w in
     record { walk = walk; there = (k, within, any_default (w ∷ ws) k walk w within); waits = waits w }
+
+pub blames_one : (cells bodies : ℕ → Option (List ℕ)) (tree : Tree) (name : PageName) (walks : List WalkValue) (k : ℕ) → k < length walks → ((d : WalkValue) → LooksAt cells bodies tree (get_or walks k d).items name) → BlamesOne cells bodies tree walks name
+blames_one cells bodies tree name [] k within looks = absurd (omega arith)
+blames_one cells bodies tree name (w ∷ ws) k within looks =
+    let walk = get_or (w ∷ ws) k w in
+    record { walk = walk; there = (k, within, any_default (w ∷ ws) k walk w within); looks = looks w }

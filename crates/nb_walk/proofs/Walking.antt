@@ -215,9 +215,3 @@ module _ (cells bodies_shown : ℕ → Option (List ℕ)) (params : Params) (tre
       let before = ran.over files bodies of_tree box shows on in
       let after = over files bodies of_tree box shows before.0 in
       absurd (subst IsSound is after.sound)
-
-  pub damaged_fuel : (old mid new : WalkValue) (result : Visit) (name : PageName) → result ≡ visit.Damaged name → Ran old mid → Lowers result (fuel tree mid.items) (fuel tree new.items) → fuel tree new.items ≤ fuel tree old.items
-  damaged_fuel old mid new result name is ran lower =
-      let before = ran_fuel old mid ran in
-      let less = subst (λ r. Lowers r (fuel tree mid.items) (fuel tree new.items)) is lower in
-      omega arith

@@ -7,6 +7,7 @@ use Rattle.nb_record.specs.declared.tree.Tree.{Tree}
 use Rattle.nb_walk.specs.declared.item.Item.{Item}
 use Rattle.nb_walk.specs.Items.{last_item, page_for}
 use Rattle.nb_walk.specs.Left.{fuel, remaining_pages}
+use Rattle.nb_walk.specs.Shown.{LooksAt}
 use Rattle.nb_walk.specs.Walk.{WalkValue, IsInRange, IsWithin, IsWalkOn, IsWaiting, CanVisit, OnTree}
 
 -- a walk before and after some visits, or none
@@ -44,3 +45,9 @@ pub record IsNext (tree : Tree) (walks : List WalkValue) (name : PageName) : Typ
   pub item : Item
   pub last : last_item walk.items ≡ Some item
   pub page : page_for tree item ≡ name
+
+-- the page is shown, and a visit of some walk looks at it next
+pub record BlamesOne (cells bodies : ℕ → Option (List ℕ)) (tree : Tree) (walks : List WalkValue) (name : PageName) : Type 0 where
+  pub walk : WalkValue
+  pub there : Contains walks walk
+  pub looks : LooksAt cells bodies tree walk.items name

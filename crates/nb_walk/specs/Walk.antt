@@ -44,12 +44,12 @@ pub record IsWalkOn (params : Params) (bodies : List Body) (tree : Tree) (file :
   pub mass : w.taken + remaining_mass bodies w.items ≡ tree.mass
   pub items : AreItemsOf params bodies tree file w.items
 
--- what a visit does of what bounds the visits: it lowers it where it looked at a page
+-- what a visit does of what bounds the visits: it lowers it where it went on
 abbrev pub Lowers : Visit → ℕ → ℕ → Type 0
 Lowers visit.Moved old new = new < old
 Lowers (visit.Wants name) old new = ⊤
 Lowers visit.Finished old new = ⊤
-Lowers (visit.Damaged name) old new = new < old
+Lowers (visit.Damaged name) old new = ⊤
 
 abbrev pub IsSound : Visit → Type 0
 IsSound visit.Moved = ⊤

@@ -7,8 +7,8 @@ ghost use Rattle.nb_host.specs.Page.{IsRising};
 ghost use Rattle.nb_model.specs.declared.body.Body.{Body as Bodies};
 ghost use Rattle.nb_record.specs.Tree.{IsTreeOf};
 ghost use Rattle.nb_walk.specs.Shown.{IsWalkable, Shows};
-ghost use Rattle.nb_walk.specs.Running.{HasRun, HasSettled, Each, OneWaits, IsNext};
-ghost use Rattle.nb_walk.specs.Page.{IsPageOf, IsLookedAt};
+ghost use Rattle.nb_walk.specs.Running.{HasRun, HasSettled, Each, OneWaits, IsNext, BlamesOne};
+ghost use Rattle.nb_walk.specs.Page.{IsPageOf};
 ghost use Rattle.nb_walk.specs.Walk.{new_walk, IsInRange, IsWalkOn};
 ghost use Rattle.nb_walk.specs.Pool.{unasked, all_unasked, waiting, targets, sums, AreInRange, AreWithin, AreFinished, IsSettled, SomeWaits, IsNeeded, IsWanted, pool_fuel, CanGoOn, IsAdvanced, PoolOnTree};
 
@@ -128,7 +128,8 @@ impl Pool {
         ensures waits { result ≡ Ok false → SomeWaits self.new.walks }
         ensures wants { OnOk result (IsWanted tree.now self.new.walks self.new.wants) }
         ensures damaged { (name : Names) → result ≡ Err name
-            → IsLookedAt (L.cells lender.now) (L.bodies lender.now) tree.now name }
+            → BlamesOne (L.cells lender.now) (L.bodies lender.now) tree.now
+            (map (λ w. w.walk) self.new.walks) name }
         ensures unasked { OnErr result (self.new.walks ≡ all_unasked self.new.walks) }
         ensures none { OnErr result (self.new.wants ≡ []) }
         ensures fuel { pool_fuel tree.now self.new.walks ≤ pool_fuel tree.now self.old.walks }
@@ -184,7 +185,7 @@ fn run_all<L: Lender>(
     ensures waits { result ≡ Ok false
         → OneWaits (L.cells lender.now) (L.bodies lender.now) tree.now walks.new }
     ensures damaged { (name : Names) → result ≡ Err name
-        → IsLookedAt (L.cells lender.now) (L.bodies lender.now) tree.now name }
+        → BlamesOne (L.cells lender.now) (L.bodies lender.now) tree.now walks.new name }
     ensures sound { (files : ℕ → List ℕ) (bodies : List Bodies) → IsTreeOf tree.now files params.now bodies
         → All (λ b. IsInBox b.at) bodies → Shows (L.cells lender.now) (L.bodies lender.now) tree.now files
         → All (λ w. IsWalkOn params.now bodies tree.now (files tree.now.cells) w) walks.old → IsOk result }

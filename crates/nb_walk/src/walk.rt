@@ -12,7 +12,7 @@ ghost use Rattle.nb_walk.specs.Room.{HasRoom, IsSmall};
 ghost use Rattle.nb_walk.specs.Shown.{IsWalkable, IsAtMost, LooksAt, Waits, next_item, shown_for};
 ghost use Rattle.nb_walk.specs.Taking.{TakesTree};
 ghost use Rattle.nb_walk.specs.Walk.{new_walk, IsInRange, IsWithin, IsWalkOn, Lowers, OnTree, VisitsTree, IsWaiting, CanVisit, RunsTree};
-ghost use Rattle.nb_walk.specs.Page.{IsPageOf, IsLookedAt};
+ghost use Rattle.nb_walk.specs.Page.{IsPageOf};
 
 use crate::course::take_last;
 use crate::item::Item;
@@ -73,7 +73,8 @@ impl Walk {
     }
 
     /// Looks at one page: of a key's chain, or of the bodies of a leaf. Wants comes where the next item's
-    /// page isn't shown, and Damaged only where a shown page isn't the tree's.
+    /// page isn't shown, and Damaged only where a shown page isn't the tree's: the items are then as they
+    /// were, and the sum may have part of a page in it.
     pub fn visit<L: Lender>(&mut self, params: &Params, tree: &Tree, lender: &L) -> Visit
         requires tree { IsWalkable params.now tree.now }
         requires range { IsInRange params.now self.old }
@@ -92,6 +93,7 @@ impl Walk {
         } }
         ensures damaged { (name : Names) → result ≡ Visit.Damaged name
             → LooksAt (L.cells lender.now) (L.bodies lender.now) tree.now self.old.items name }
+        ensures kept { (name : Names) → result ≡ Visit.Damaged name → self.new.items ≡ self.old.items }
         ensures lower { Lowers result (fuel tree.now self.old.items) (fuel tree.now self.new.items) }
         ensures tree { OnTree params.now tree.now (L.cells lender.now) (L.bodies lender.now) self.old
             (λ bodies file. VisitsTree params.now bodies tree.now file self.old self.new result) }
@@ -128,7 +130,7 @@ impl Walk {
         ensures waits { result ≡ Ok false
             → IsWaiting (L.cells lender.now) (L.bodies lender.now) tree.now self.new.items }
         ensures damaged { (name : Names) → result ≡ Err name
-            → IsLookedAt (L.cells lender.now) (L.bodies lender.now) tree.now name }
+            → LooksAt (L.cells lender.now) (L.bodies lender.now) tree.now self.new.items name }
         ensures fuel { fuel tree.now self.new.items ≤ fuel tree.now self.old.items }
         ensures lower { CanVisit (L.cells lender.now) (L.bodies lender.now) tree.now self.old.items
             → OnOk result (fuel tree.now self.new.items < fuel tree.now self.old.items) }
@@ -204,6 +206,8 @@ fn visit_cell<L: Lender>(
     ensures key { tally.new.key ≡ tally.old.key }
     ensures range { IsAtMost (params.now.grav * tally.new.taken) tally.new.sum }
     ensures within { tally.old.taken ≤ tree.now.mass → tally.new.taken ≤ tree.now.mass }
+    ensures kept { (name : Names) → result ≡ Visit.Damaged name
+        → items.new.items ≡ items.old.items ++ item.Cell key page ∷ [] }
     ensures lower { Lowers result (fuel tree.now (items.old.items ++ item.Cell key page ∷ []))
         (fuel tree.now items.new.items) }
     ensures tree { TakesTree params.now tree.now (L.cells lender.now) (L.bodies lender.now)
@@ -216,6 +220,7 @@ fn visit_cell<L: Lender>(
                 return Visit::Moved;
             }
             if !tally.add(params, tree.mass, cell.mass(), &cell.centre()) {
+                items.push(Item::Cell(key, page));
                 return Visit::Damaged(PageName {
                     file: tree.cells,
                     page: page_at(tree.bits, key, page),
@@ -231,7 +236,10 @@ fn visit_cell<L: Lender>(
             items.push(Item::Cell(key, page));
             Visit::Wants(name)
         }
-        Sight::Damaged(name) => Visit::Damaged(name),
+        Sight::Damaged(name) => {
+            items.push(Item::Cell(key, page));
+            Visit::Damaged(name)
+        }
     }
 }
 
@@ -262,6 +270,8 @@ fn visit_bodies<L: Lender>(
     ensures key { tally.new.key ≡ tally.old.key }
     ensures range { IsAtMost (params.now.grav * tally.new.taken) tally.new.sum }
     ensures within { tally.old.taken ≤ tree.now.mass → tally.new.taken ≤ tree.now.mass }
+    ensures kept { (name : Names) → result ≡ Visit.Damaged name
+        → items.new.items ≡ items.old.items ++ item.Bodies from count ∷ [] }
     ensures lower { Lowers result (fuel tree.now (items.old.items ++ item.Bodies from count ∷ []))
         (fuel tree.now items.new.items) }
     ensures tree { TakesTree params.now tree.now (L.cells lender.now) (L.bodies lender.now)
@@ -276,14 +286,19 @@ fn visit_bodies<L: Lender>(
             items.push(Item::Bodies(from, count));
             Visit::Wants(name)
         }
-        Some(Err(_)) => Visit::Damaged(name),
+        Some(Err(_)) => {
+            items.push(Item::Bodies(from, count));
+            Visit::Damaged(name)
+        }
         Some(Ok(page)) => {
             let place = from % BODIES_PER_PAGE;
             let here = count.min(BODIES_PER_PAGE - place);
             if place + here > page.count() {
+                items.push(Item::Bodies(from, count));
                 return Visit::Damaged(name);
             }
             if !tally.add_bodies(params, tree.mass, &page, place, place + here) {
+                items.push(Item::Bodies(from, count));
                 return Visit::Damaged(name);
             }
             if count > here {

@@ -1,9 +1,10 @@
-use Rattle.std.proofs.Common.{◌≡◌, ◌≢◌, ◌+◌, ◌<◌, false, Ok, [], length, get_or, set, length-set, get_or-set_same, get_or-set_other, sym, ap, ◌∙◌, subst, arith, inl, inr}
+use Rattle.std.proofs.Common.{rules, ◌≡◌, ◌≢◌, ◌+◌, ◌<◌, false, Ok, Err, [], length, get_or, set, length-set, get_or-set_same, get_or-set_other, sym, ap, ◌∙◌, subst, arith, inl, inr}
 use Rattle.std.specs.Prelude.{◌⊎◌, OnOk}
 use Rattle.nb_walk.specs.Left.{fuel}
+use Rattle.nb_walk.specs.Shown.{LooksAt}
 use Rattle.nb_walk.specs.Walk.{IsWaiting}
 use Rattle.nb_walk.specs.Running.{HasRun, HasSettled}
-use Rattle.nb_walk.proofs.Runs.{each_more, same_more, each_all, still, has_run, has_settled, item_at, all_more, one_waits}
+use Rattle.nb_walk.proofs.Runs.{each_more, same_more, each_all, still, has_run, has_settled, item_at, all_more, one_waits, blames_one}
 use Rattle.nb_walk.proofs.pool.run_all.Goals.{then-not-branch, else-not-branch}
 use Rattle.nb_walk.proofs.pool.run_all.Goals as goal
 
@@ -75,3 +76,17 @@ returns-clause-waits g c = λ is.
     let waits = c.loop-walk.invariant.waits flag in
     let within : waits.0 < length c.loop-walk.walks = let below = waits.1 in omega arith in
     one_waits (g.L.Lender.cells c.args.lender.now) (g.L.Lender.bodies c.args.lender.now) c.args.tree.now c.loop-walk.walks waits.0 within waits.2
+
+pub returns-in_err-run-clause-damaged : goal.returns-in_err-run-clause-damaged
+returns-in_err-run-clause-damaged g c = λ name e.
+    let cells = g.L.Lender.cells c.args.lender.now in
+    let bodies = g.L.Lender.bodies c.args.lender.now in
+    let now = c.loop-walk.walks in
+    let i = c.loop-walk.walk-index in
+    let new = c.run.new.self in
+    let within : i < length now = omega arith in
+    let handed_on : c.from_residual.result ≡ Err c.in_err-run.field-0.0 = search rules in
+    let same : c.in_err-run.field-0.0 ≡ name = cc in
+    let looks = c.run.ensures.damaged name (c.in_err-run.was ∙ ap (λ n. Err n) same) in
+    blames_one cells bodies c.args.tree.now name (set now i new) i (let count = length-set now i new in omega arith)
+    (λ d. subst (λ v. LooksAt cells bodies c.args.tree.now v.items name) (sym (get_or-set_same now i new d within)) looks)

@@ -27,9 +27,6 @@ overflow_add-from g c =
     let small = room_small c.args.items.now.items (item.Bodies c.args.from c.args.count) c.requires.room in
     omega arith
 
-pub returns-in-Some-Err-clause-room : goal.returns-in-Some-Err-clause-room
-returns-in-Some-Err-clause-room g c = room_front c.args.items.now.items (item.Bodies c.args.from c.args.count) c.requires.room
-
 pub returns-in-Some-Err-clause-tree : goal.returns-in-Some-Err-clause-tree
 returns-in-Some-Err-clause-tree g c = λ files bodies of_tree shows items.
     let params = c.args.params.now in
@@ -37,9 +34,6 @@ returns-in-Some-Err-clause-tree g c = λ files bodies of_tree shows items.
     let own = bodies_of_item (angle params c.args.tally.now.target) params c.args.tree.now files bodies of_tree front c.args.from c.args.count items in
     absurd (page_checks params c.args.tree.now files bodies (g.L.Lender.cells c.args.lender.now) (g.L.Lender.bodies c.args.lender.now) c.args.from c.body_page.result c.in-Some-Err.field-0-0
     of_tree shows (omega arith) c.body_page.ensures (c.in-Some-Err.is ∙ ap (λ r. Some r) c.in-Some-Err.field-0-is))
-
-pub returns-then-place-here-clause-room : goal.returns-then-place-here-clause-room
-returns-then-place-here-clause-room g c = room_front c.args.items.now.items (item.Bodies c.args.from c.args.count) c.requires.room
 
 pub returns-then-place-here-clause-tree : goal.returns-then-place-here-clause-tree
 returns-then-place-here-clause-tree g c = λ files bodies of_tree shows items.
@@ -57,9 +51,6 @@ returns-then-place-here-clause-tree g c = λ files bodies of_tree shows items.
     let more = c.if-place-here.true in
     let count = c.count.ensures.value in
     absurd (omega arith)
-
-pub returns-then-not-add_bodies-clause-room : goal.returns-then-not-add_bodies-clause-room
-returns-then-not-add_bodies-clause-room g c = room_front c.args.items.now.items (item.Bodies c.args.from c.args.count) c.requires.room
 
 pub returns-then-not-add_bodies-clause-tree : goal.returns-then-not-add_bodies-clause-tree
 returns-then-not-add_bodies-clause-tree g c = λ files bodies of_tree shows items.
@@ -141,3 +132,27 @@ returns-else-count-here-clause-tree g c = λ files bodies of_tree shows items.
     let same = page_range params tree files bodies of_tree front cells_shown bodies_shown from c.args.count here bytes shows lent own.1 (omega arith) (omega arith) (omega arith) in
     takes_rest params tree files bodies of_tree front from c.args.count here a c.add_bodies.new.self items less (omega arith)
     (subst (λ ts. Adds params ts a c.add_bodies.new.self) same (c.add_bodies.ensures.added c.if-not-add_bodies.false))
+
+pub returns-in-Some-Err-clause-room : goal.returns-in-Some-Err-clause-room
+returns-in-Some-Err-clause-room g c = subst HasRoom (sym c.push-in-Some-Err.ensures.items) c.requires.room
+
+pub returns-then-place-here-clause-room : goal.returns-then-place-here-clause-room
+returns-then-place-here-clause-room g c = subst HasRoom (sym c.push-then-place-here.ensures.items) c.requires.room
+
+pub returns-then-not-add_bodies-clause-room : goal.returns-then-not-add_bodies-clause-room
+returns-then-not-add_bodies-clause-room g c = subst HasRoom (sym c.push-then-not-add_bodies.ensures.items) c.requires.room
+
+pub push-requires-in-Some-Err : goal.push-requires-in-Some-Err
+push-requires-in-Some-Err g c =
+    let place = room_place c.args.items.now.items (item.Bodies c.args.from c.args.count) c.requires.room in
+    (omega arith, omega arith)
+
+pub push-requires-then-place-here : goal.push-requires-then-place-here
+push-requires-then-place-here g c =
+    let place = room_place c.args.items.now.items (item.Bodies c.args.from c.args.count) c.requires.room in
+    (omega arith, omega arith)
+
+pub push-requires-then-not-add_bodies : goal.push-requires-then-not-add_bodies
+push-requires-then-not-add_bodies g c =
+    let place = room_place c.args.items.now.items (item.Bodies c.args.from c.args.count) c.requires.room in
+    (omega arith, omega arith)

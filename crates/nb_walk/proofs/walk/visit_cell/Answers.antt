@@ -65,9 +65,6 @@ returns-then-not-add-clause-damaged g c = λ name e.
       λ none. let wants = (c.look_at.ensures.wants (page_for tree (item.Cell c.args.key c.args.page))).1 (refl, none) in let is = c.in-Cell.is in cc,
     )
 
-pub returns-then-not-add-clause-room : goal.returns-then-not-add-clause-room
-returns-then-not-add-clause-room g c = room_front c.args.items.now.items (item.Cell c.args.key c.args.page) c.requires.room
-
 pub returns-then-not-add-clause-tree : goal.returns-then-not-add-clause-tree
 returns-then-not-add-clause-tree g c = λ files bodies of_tree shows items.
     let tree = c.args.tree.now in
@@ -135,7 +132,7 @@ returns-in-Next-clause-room g c =
     let x = item.Cell c.args.key c.args.page in
     let next = c.in-Next.ensures.next in
     let pages = c.requires.tree.pages in
-    subst HasRoom (sym c.push.ensures.items)
+    subst HasRoom (sym c.push-in-Next.ensures.items)
     (room_push front (item.Cell c.args.key c.in-Next.next) (room_front front x c.requires.room) ((room_small front x c.requires.room).0, omega arith) (room_place front x c.requires.room))
 
 pub returns-in-Next-clause-tree : goal.returns-in-Next-clause-tree
@@ -146,16 +143,13 @@ returns-in-Next-clause-tree g c = λ files bodies of_tree shows items.
     let a = c.args.tally.now in
     let cell_item = cell_item_of (angle params a.target) params tree files bodies of_tree front c.args.key c.args.page c.requires.some items in
     let seen = subst (SeesOver params bodies tree (files tree.cells) c.args.key c.args.page) c.in-Next.is (c.look_at.ensures.tree files params bodies of_tree shows cell_item) in
-    takes_next params tree files bodies of_tree front c.args.key c.args.page c.in-Next.next c.push.new.self.items a items seen c.push.ensures.items
+    takes_next params tree files bodies of_tree front c.args.key c.args.page c.in-Next.next c.push-in-Next.new.self.items a items seen c.push-in-Next.ensures.items
 
 pub returns-in-Wants-clause-wants : goal.returns-in-Wants-clause-wants
 returns-in-Wants-clause-wants g c =
     visit_wanted c.look_at.result c.in-Wants.name
     (λ name. (name ≡ page_for c.args.tree.now (item.Cell c.args.key c.args.page)) × (g.L.Lender.cells c.args.lender.now (chain_page c.args.tree.now.bits c.args.key c.args.page) ≡ None))
     c.look_at.ensures.wants c.in-Wants.is
-
-pub returns-in-Damaged-clause-room : goal.returns-in-Damaged-clause-room
-returns-in-Damaged-clause-room g c = room_front c.args.items.now.items (item.Cell c.args.key c.args.page) c.requires.room
 
 pub returns-in-Damaged-clause-tree : goal.returns-in-Damaged-clause-tree
 returns-in-Damaged-clause-tree g c = λ files bodies of_tree shows items.
@@ -166,14 +160,20 @@ returns-in-Damaged-clause-tree g c = λ files bodies of_tree shows items.
     let cell_item = cell_item_of (angle params a.target) params tree files bodies of_tree front c.args.key c.args.page c.requires.some items in
     absurd (subst (SeesOver params bodies tree (files tree.cells) c.args.key c.args.page) c.in-Damaged.is (c.look_at.ensures.tree files params bodies of_tree shows cell_item))
 
-pub returns-then-not-add-clause-lower : goal.returns-then-not-add-clause-lower
-returns-then-not-add-clause-lower g c =
+pub push-requires-in-Next : goal.push-requires-in-Next
+push-requires-in-Next g c =
     let front = c.args.items.now.items in
     let x = item.Cell c.args.key c.args.page in
-    subst (λ l. fuel c.args.tree.now l < fuel c.args.tree.now (front ++ x ∷ [])) (append-nil front) (fuel_among c.args.tree.now front [] x (fuel_some c.args.tree.now x))
+    (omega arith, place_free (length front) c.args.key (room_small front x c.requires.room).0 (room_place front x c.requires.room))
 
-pub returns-in-Damaged-clause-lower : goal.returns-in-Damaged-clause-lower
-returns-in-Damaged-clause-lower g c =
+pub push-requires-in-Damaged : goal.push-requires-in-Damaged
+push-requires-in-Damaged g c =
     let front = c.args.items.now.items in
     let x = item.Cell c.args.key c.args.page in
-    subst (λ l. fuel c.args.tree.now l < fuel c.args.tree.now (front ++ x ∷ [])) (append-nil front) (fuel_among c.args.tree.now front [] x (fuel_some c.args.tree.now x))
+    (omega arith, place_free (length front) c.args.key (room_small front x c.requires.room).0 (room_place front x c.requires.room))
+
+pub returns-then-not-add-clause-room : goal.returns-then-not-add-clause-room
+returns-then-not-add-clause-room g c = subst HasRoom (sym c.push.ensures.items) c.requires.room
+
+pub returns-in-Damaged-clause-room : goal.returns-in-Damaged-clause-room
+returns-in-Damaged-clause-room g c = subst HasRoom (sym c.push-in-Damaged.ensures.items) c.requires.room

@@ -1,10 +1,10 @@
-use Rattle.std.proofs.Common.{◌≡◌, ◌≤◌, ◌<◌, ◌↔◌, true, false, Ok, List, length, map, take, drop, ◌++◌, sym, ap, ◌∙◌, subst}
+use Rattle.std.proofs.Common.{rules, Err, ◌≡◌, ◌≤◌, ◌<◌, ◌↔◌, true, false, Ok, List, length, map, take, drop, ◌++◌, sym, ap, ◌∙◌, subst}
 use Rattle.std.specs.Prelude.{IsTrue, All, Contains, OnOk, IsOk}
 use Rattle.nb_host.specs.declared.page_name.PageName.{PageName}
 use Rattle.nb_walk.specs.Pool.{Waiting, waiting, targets, AreInRange, AreWithin, AreFinished, IsSettled, SomeWaits, IsWanted, pool_fuel, CanGoOn, AreOn, IsAdvanced}
-use Rattle.nb_walk.specs.Running.{HasSettled, Each, IsNext}
+use Rattle.nb_walk.specs.Running.{BlamesOne, HasSettled, Each, IsNext}
 use Rattle.nb_walk.specs.Walk.{WalkValue, IsInRange, IsWalkOn}
-use Rattle.nb_walk.proofs.Pools.{IsBetween, pass, on_err, all_unasked_is, new_targets, new_range, new_within, new_fuel, new_settled, new_lower, new_tree, answer, some_waits, wanted, written_back, on_their_way, in_range}
+use Rattle.nb_walk.proofs.Pools.{IsBetween, pass, on_err, all_unasked_is, new_targets, new_range, new_within, new_fuel, new_settled, new_lower, new_tree, answer, some_waits, wanted, written_back, on_their_way, in_range, walks_back}
 use Rattle.nb_walk.proofs.pool.Pool.advance.Goals as goal
 
 pub run_all-requires-clause-range : goal.run_all-requires-clause-range
@@ -35,6 +35,31 @@ returns-in_err-done-clause-targets g c =
     let by = λ (P : List Waiting → List WalkValue → Type 0). pass P c.args.self.now.walks written old new inside.asked is in
     let each = c.run_all.ensures.each in
     by (λ w l. targets (map (waiting false) l) ≡ targets w) (new_targets cells bodies params tree old new long each inside.asked false)
+
+pub returns-in_err-done-clause-damaged : goal.returns-in_err-done-clause-damaged
+returns-in_err-done-clause-damaged g c = λ name e.
+    let handed_on : c.from_residual.result ≡ Err c.in_err-done.field-0.0 = search rules in
+    let blamed : c.in_err-done.field-0.0 ≡ name = cc in
+    let cells = g.L.Lender.cells c.args.lender.now in
+    let bodies = g.L.Lender.bodies c.args.lender.now in
+    let params = c.args.params.now in
+    let tree = c.args.tree.now in
+    let inside = c.self.inside in
+    let old = c.deref_mut.result.now in
+    let new = c.run_all.new.walks in
+    let written = take inside.walks.len (new ++ drop (length new) inside.walks.items) in
+    let same = c.deref_mut.ensures.value in
+    let sizes = ap length same in
+    let long : length new ≡ length old = c.run_all.auto.walks in
+    let is : IsBetween c.args.self.now.walks written old new inside.asked = record {
+      was = sym (ap (λ v. v.walks) c.self.view_is) ∙ ap (map (waiting inside.asked)) (sym same);
+      now = written_back inside.walks.len new inside.walks.items (long ∙ sizes) inside.walks.ok.0;
+      long = long;
+    } in
+    let by = λ (P : List Waiting → List WalkValue → Type 0). pass P c.args.self.now.walks written old new inside.asked is in
+    let error : c.run_all.result ≡ Err name = c.in_err-done.was ∙ ap (λ n. Err n) blamed in
+    by (λ w l. BlamesOne cells bodies tree (map (λ v. v.walk) (map (waiting false) l)) name)
+    (subst (λ l. BlamesOne cells bodies tree l name) (sym (walks_back false new)) (c.run_all.ensures.damaged name error))
 
 pub returns-in_err-done-clause-range : goal.returns-in_err-done-clause-range
 returns-in_err-done-clause-range g c =

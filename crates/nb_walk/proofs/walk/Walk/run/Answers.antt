@@ -1,7 +1,8 @@
 use Rattle.std.proofs.Common.{◌≡◌, ◌<◌, ◌≤◌, sym, ap, ◌∙◌, subst}
 use Rattle.nb_walk.specs.Left.{fuel}
+use Rattle.nb_walk.specs.Shown.{LooksAt}
 use Rattle.nb_walk.specs.Walk.{IsWaiting}
-use Rattle.nb_walk.proofs.Walking.{Ran, ran_none, ran_more, ran_fuel, waiting_is, waits_lower, waits_over, ended_lower, ended_fuel, ended_over, damaged_over, damaged_fuel}
+use Rattle.nb_walk.proofs.Walking.{Ran, ran_none, ran_more, ran_fuel, waiting_is, waits_lower, waits_over, ended_lower, ended_fuel, ended_over, damaged_over}
 use Rattle.nb_walk.proofs.walk.Walk.run.Goals as goal
 
 pub loop-name-init : goal.loop-name-init
@@ -70,14 +71,18 @@ returns-in-Finished-clause-tree g c =
 
 pub returns-in-Damaged-clause-damaged : goal.returns-in-Damaged-clause-damaged
 returns-in-Damaged-clause-damaged g c = λ name is.
+    let cells = g.L.Lender.cells c.args.lender.now in
+    let bodies = g.L.Lender.bodies c.args.lender.now in
     let looks = c.visit.ensures.damaged c.in-Damaged.name c.in-Damaged.is in
+    let kept = c.visit.ensures.kept c.in-Damaged.name c.in-Damaged.is in
     let same : c.in-Damaged.name ≡ name = cc in
-    record { item = looks.item; page = looks.page ∙ same; shown = looks.shown }
+    subst (LooksAt cells bodies c.args.tree.now c.visit.new.self.items) same (subst (λ l. LooksAt cells bodies c.args.tree.now l c.in-Damaged.name) (sym kept) looks)
 
 pub returns-in-Damaged-clause-fuel : goal.returns-in-Damaged-clause-fuel
 returns-in-Damaged-clause-fuel g c =
-    damaged_fuel (g.L.Lender.cells c.args.lender.now) (g.L.Lender.bodies c.args.lender.now) c.args.params.now c.args.tree.now c.args.self.now c.loop-name.self c.visit.new.self c.visit.result c.in-Damaged.name
-    c.in-Damaged.is c.loop-name.invariant c.visit.ensures.lower
+    let tree = c.args.tree.now in
+    subst (λ l. fuel tree l ≤ fuel tree c.args.self.now.items) (sym (c.visit.ensures.kept c.in-Damaged.name c.in-Damaged.is))
+    (ran_fuel (g.L.Lender.cells c.args.lender.now) (g.L.Lender.bodies c.args.lender.now) c.args.params.now tree c.args.self.now c.loop-name.self c.loop-name.invariant)
 
 pub returns-in-Damaged-clause-tree : goal.returns-in-Damaged-clause-tree
 returns-in-Damaged-clause-tree g c =

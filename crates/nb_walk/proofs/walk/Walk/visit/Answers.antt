@@ -72,6 +72,19 @@ returns-clause-damaged g c = λ name blames.
           looks cells bodies tree old front x name c.if-tree-eq0.false there why.0 (subst (λ n. bodies n.page ≢ None) why.0 why.1)
     ]
 
+pub returns-clause-kept : goal.returns-clause-kept
+returns-clause-kept g c = λ name blames.
+    let front = c.take_last.new.items.items in
+    let was : c.args.self.now.items ≡ front ++ c.in-Some.item ∷ [] = ap (λ v. v.items) (sym c.self.view_is) ∙ c.in-Some.ensures.items in
+    elim c.match-item.branch [
+      | in-Cell w ↦
+          ap (λ v. (the_view v).items) w.self-inside-is ∙ w.visit_cell.ensures.kept name (sym w.result-is ∙ blames)
+          ∙ ap (λ y. front ++ y ∷ []) (sym w.in-Cell.is) ∙ sym was
+      | in-Bodies w ↦
+          ap (λ v. (the_view v).items) w.self-inside-is ∙ w.visit_bodies.ensures.kept name (sym w.result-is ∙ blames)
+          ∙ ap (λ y. front ++ y ∷ []) (sym w.in-Bodies.is) ∙ sym was
+    ]
+
 pub returns-clause-finished : goal.returns-clause-finished
 returns-clause-finished g c =
     let tree = c.args.tree.now in
