@@ -13,7 +13,7 @@ use Rattle.nb_host.specs.Page.{same_page}
 use Rattle.nb_cache.specs.Stock.{Stock, held_of}
 use Rattle.nb_cache.specs.InStep.{IsCacheable}
 use Rattle.nb_cache.specs.Names.{held_without, rested, settled}
-use Rattle.nb_cache.specs.Sound.{IsSound}
+use Rattle.nb_cache.specs.Sound.{AreResident}
 use Rattle.nb_cache.specs.View.{Held, CacheValue, held_names}
 use Rattle.nb_cache.specs.declared.frame.Frame.{Frame}
 use Rattle.nb_host.proofs.Callers.{same_page_apart, same_page_eq}
@@ -133,7 +133,7 @@ held_of-settled k (e ∷ es) frame after distinct there bytes rests = (elim (sam
         ∙ ap (λ l. held e ∷ l) (settled_lacking k es apart.1)
 
 pub sound : (es : List (PageName × Frame)) (cap : ℕ) → IsValid same_page (lru_cache es cap)
-    → ((h : Held) → Contains (held_of es) h → IsCacheable h.name) → IsSound cap (held_of es)
+    → ((h : Held) → Contains (held_of es) h → IsCacheable h.name) → AreResident cap (held_of es)
 sound es cap valid places = record {
   distinct = subst (IsDistinct same_page) (sym (names_of-held es)) valid.0;
   bound = omega (arith, ap (λ l. length l) (names_of-held es), length-keys_of es, valid.1);

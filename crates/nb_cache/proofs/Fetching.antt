@@ -8,7 +8,7 @@ use Rattle.nb_host.specs.declared.page_name.PageName.{PageName}
 use Rattle.nb_host.specs.Page.{HasPage, same_page, IsRising}
 use Rattle.nb_cache.specs.Names.{used}
 use Rattle.nb_cache.specs.InStep.{IsInStep}
-use Rattle.nb_cache.specs.Sound.{IsSound}
+use Rattle.nb_cache.specs.Sound.{AreResident}
 use Rattle.nb_cache.specs.View.{CacheValue, names_of, IsWhole, IsFirstShort}
 use Rattle.nb_cache.specs.Writes.{Writes}
 use Rattle.nb_cache.proofs.Callers.{no_file, writes_begins, writes_again}
@@ -25,11 +25,11 @@ module _ {H : Type 0} (m : HostModel H) where
     pub names : names_of new_cache ≡ used old_cache.pages done (names_of old_cache)
     pub whole : IsTrue m.tells → AllByRecursion (IsWhole old_cache (m.contents old)) done
     pub unwritten : new_cache.unwritten ≡ old_cache.unwritten
-    pub sound : IsSound new_cache.pages new_cache.held
+    pub sound : AreResident new_cache.pages new_cache.held
     pub writes : Writes m [] old_cache old new_cache new
     pub spared : m.faults new ≡ m.faults old
 
-  pub fetches_none : (old_cache : CacheValue) (old : H) → IsSound old_cache.pages old_cache.held
+  pub fetches_none : (old_cache : CacheValue) (old : H) → AreResident old_cache.pages old_cache.held
       → IsInStep m old_cache old → Fetches old_cache old [] old_cache old
   fetches_none old_cache old sound in_step = record {
     names = used_none old_cache.pages (names_of old_cache) sound.bound;
@@ -56,7 +56,7 @@ module _ {H : Type 0} (m : HostModel H) where
     pub fetches_at : (new_cache : CacheValue) (new : H) → IsRising names
         → names_of new_cache ≡ used middle_cache.pages (get_or names i d ∷ []) (names_of middle_cache)
         → (IsTrue m.tells → IsWhole middle_cache (m.contents middle) (get_or names i d))
-        → new_cache.unwritten ≡ middle_cache.unwritten → IsSound new_cache.pages new_cache.held
+        → new_cache.unwritten ≡ middle_cache.unwritten → AreResident new_cache.pages new_cache.held
         → Writes m [] middle_cache middle new_cache new → m.faults new ≡ m.faults middle
         → Fetches old_cache old (take (i + 1) names) new_cache new
     fetches_at new_cache new rising resident whole unwritten sound writes spared =

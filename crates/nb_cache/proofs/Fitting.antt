@@ -9,8 +9,8 @@ use Rattle.nb_host.specs.declared.page_name.PageName.{PageName}
 use Rattle.nb_host.specs.declared.page_name.TheConstants.{PAGE_SIZE}
 use Rattle.nb_host.proofs.Callers.{page_kept, page_stays, page_written, whole_page, same_page_eq, same_page_apart, same_page_refl}
 use Rattle.nb_cache.specs.InStep.{IsCachedFile, IsCacheable, Fits}
-use Rattle.nb_cache.specs.Names.{without_file, held_without, rested, settled, IsMoved, IsWithoutFile, HasRoom}
-use Rattle.nb_cache.specs.Sound.{IsSound}
+use Rattle.nb_cache.specs.Names.{without_file, held_without, rested, settled, IsMoved, IsWithoutFile, SparesWaiting}
+use Rattle.nb_cache.specs.Sound.{AreResident}
 use Rattle.nb_cache.specs.View.{Held, CacheValue, Waits, names_of, overlaid, view_of, IsWhole}
 use Rattle.nb_cache.proofs.Overlays.{Lacks, Whole, lacks_at, there_or_lacks, without_lacking, lacks_without, without_has, has_without, one_of_name, page_length}
 use Rattle.nb_cache.proofs.Laying.{lies, laid, laid_over, overlaid_out, overlaid_rest, overlaid_none, overlaid_settled, settled_has, has_settled, whole_without}
@@ -81,7 +81,7 @@ name_there (g ∷ held) h has = elim (Contains-cons g held h has) [
 
 -- A page became the most recently used.
 
-module _ (name : PageName) (pages : ℕ) (old new : List Held) (moved : IsMoved name old new) (sound : IsSound pages old) where
+module _ (name : PageName) (pages : ℕ) (old new : List Held) (moved : IsMoved name old new) (sound : AreResident pages old) where
   pub moved_has : (h : Held) → Contains new h → Contains old h
   moved_has h has = elim (Contains-cons moved.page (held_without name old) h (subst (λ l. Contains l h) moved.now has)) [
     | inl same ↦ subst (Contains old) same moved.there
@@ -104,7 +104,7 @@ module _ (name : PageName) (pages : ℕ) (old new : List Held) (moved : IsMoved 
       ∙ sym (overlaid_rest file name moved.page old bytes sound.distinct sound.whole moved.there moved.named)
 
 pub fits_moved : (name : PageName) (old new : CacheValue) (image : Image) → IsMoved name old.held new.held
-    → IsSound old.pages old.held → new.unwritten ≡ old.unwritten → Fits old image → Fits new image
+    → AreResident old.pages old.held → new.unwritten ≡ old.unwritten → Fits old image → Fits new image
 fits_moved name old new image moved sound unwritten fits =
     fits_as old new image fits (moved_has name old.pages old.held new.held moved sound)
     (λ h has waits. subst (λ l. Contains l h.name.file) (sym unwritten)
@@ -113,7 +113,7 @@ fits_moved name old new image moved sound unwritten fits =
     (λ n one. waits_more old.held new.held n (λ h has _ _. moved_kept name old.pages old.held new.held moved sound h has) one)
 
 -- one of this file, or of another, went to the front
-pub moved_file : (name : PageName) (pages file : ℕ) (old new : List Held) → IsMoved name old new → IsSound pages old
+pub moved_file : (name : PageName) (pages file : ℕ) (old new : List Held) → IsMoved name old new → AreResident pages old
     → IsWithoutFile file old new
 moved_file name pages file old new moved sound = record {
   fewer = moved_has name pages old new moved sound;
@@ -122,7 +122,7 @@ moved_file name pages file old new moved sound = record {
 }
 
 -- one of this file left
-pub without_page : (name : PageName) (pages file : ℕ) (old new : List Held) → IsSound pages old → name.file ≡ file
+pub without_page : (name : PageName) (pages file : ℕ) (old new : List Held) → AreResident pages old → name.file ≡ file
     → new ≡ held_without name old → IsWithoutFile file old new
 without_page name pages file old new sound of_file gone = record {
   fewer = λ h has. (without_has name old h (subst (λ l. Contains l h) gone has)).0;
@@ -202,7 +202,7 @@ whole_still c before after whole fits more name cached there =
 lies_not : (w : Bool) (f file : ℕ) → f ≢ file → (w && (f == file)) ≡ false
 lies_not w f file other = grind (arith, nat_tests)
 
-module _ (c : CacheValue) (before after : Image) (k : PageName) (torn : FileBecomes k.file (IsTorn (page_start k.page) PAGE_SIZE) before after) (sound : IsSound c.pages c.held) (fits : Fits c before) where
+module _ (c : CacheValue) (before after : Image) (k : PageName) (torn : FileBecomes k.file (IsTorn (page_start k.page) PAGE_SIZE) before after) (sound : AreResident c.pages c.held) (fits : Fits c before) where
   -- the other pages that don't wait are the host's still
   page_still : (h : Held) → Contains c.held h → h.waiting ≡ false → h.name ≢ k
       → h.bytes ≡ page_of (after.file h.name.file) h.name.page
@@ -315,7 +315,7 @@ take_waits (suc n) (x ∷ xs) h rest has waits = elim (Contains-cons x xs h has)
   | inr there ↦ Contains-tail x (take n xs) h (take_waits n xs h rest there waits)
 ]
 
-module _ (k : PageName) (p : Held) (named : p.name ≡ k) (full : length p.bytes ≡ PAGE_SIZE) (place : IsCacheable k) (old new : CacheValue) (sound : IsSound old.pages old.held) (room : HasRoom k old.pages old.held) (held : new.held ≡ p ∷ take (old.pages - 1) (held_without k old.held)) (unwritten : new.unwritten ≡ old.unwritten) where
+module _ (k : PageName) (p : Held) (named : p.name ≡ k) (full : length p.bytes ≡ PAGE_SIZE) (place : IsCacheable k) (old new : CacheValue) (sound : AreResident old.pages old.held) (room : SparesWaiting k old.pages old.held) (held : new.held ≡ p ∷ take (old.pages - 1) (held_without k old.held)) (unwritten : new.unwritten ≡ old.unwritten) where
   pub placed_has : (h : Held) → Contains new.held h → (h ≡ p) ⊎ (Contains old.held h × (same_page k h.name ≡ false))
   placed_has h has =
       elim (Contains-cons p (take (old.pages - 1) (held_without k old.held)) h (subst (λ l. Contains l h) held has)) [
@@ -642,7 +642,7 @@ named (h ∷ held) k has = elim (Contains-cons h.name (map (λ h. h.name) held) 
 ]
 
 -- A resident page.
-module _ (c : CacheValue) (image : Image) (sound : IsSound c.pages c.held) (fits : Fits c image) where
+module _ (c : CacheValue) (image : Image) (sound : AreResident c.pages c.held) (fits : Fits c image) where
   -- its bytes are the view's page
   pub held_page : (h : Held) → Contains c.held h → h.bytes ≡ page_of (view_of c image h.name.file) h.name.page
   held_page h has = (elim h.waiting as (λ y. h.waiting ≡ y → h.bytes ≡ page_of (view_of c image h.name.file) h.name.page) [

@@ -8,7 +8,7 @@ use Rattle.nb_host.specs.declared.page_name.PageName.{PageName}
 use Rattle.nb_host.proofs.Callers.{same_page_apart}
 use Rattle.nb_cache.specs.InStep.{IsInStep}
 use Rattle.nb_cache.specs.Names.{settled}
-use Rattle.nb_cache.specs.Sound.{IsSound}
+use Rattle.nb_cache.specs.Sound.{AreResident}
 use Rattle.nb_cache.specs.View.{Held, CacheValue, Waits, names_of}
 use Rattle.nb_cache.specs.Writes.{Writes}
 use Rattle.nb_cache.proofs.Callers.{writes_begins, writes_again}
@@ -20,11 +20,11 @@ module _ {H : Type 0} (m : HostModel H) where
     pub names : names_of new_cache ≡ names_of old_cache
     pub unwritten : new_cache.unwritten ≡ old_cache.unwritten
     pub waits : (name : PageName) → Waits new_cache.held name → Contains left name
-    pub sound : IsSound new_cache.pages new_cache.held
+    pub sound : AreResident new_cache.pages new_cache.held
     pub writes : Writes m [] old_cache old new_cache new
     pub spared : m.faults new ≡ m.faults old
 
-  pub flushes_none : (old_cache : CacheValue) (old : H) (names : List PageName) → IsSound old_cache.pages old_cache.held
+  pub flushes_none : (old_cache : CacheValue) (old : H) (names : List PageName) → AreResident old_cache.pages old_cache.held
       → IsInStep m old_cache old → ((name : PageName) → Waits old_cache.held name → Contains names name)
       → Flushes old_cache old names old_cache old
   flushes_none old_cache old names sound in_step waits = record {
@@ -40,7 +40,7 @@ module _ {H : Type 0} (m : HostModel H) where
     -- one page more
     pub flushes_at : (new_cache : CacheValue) (new : H) → names_of new_cache ≡ names_of middle_cache
         → new_cache.held ≡ settled (get_or names i d) middle_cache.held → new_cache.unwritten ≡ middle_cache.unwritten
-        → IsSound new_cache.pages new_cache.held → Writes m [] middle_cache middle new_cache new
+        → AreResident new_cache.pages new_cache.held → Writes m [] middle_cache middle new_cache new
         → m.faults new ≡ m.faults middle → Flushes old_cache old (drop (i + 1) names) new_cache new
     flushes_at new_cache new same held unwritten sound writes spared = record {
       names = same ∙ so_far.names;

@@ -9,7 +9,7 @@ use Rattle.std.proofs.lemmas.Map.Keys.{IsDistinct-head, IsDistinct-tail}
 use Rattle.lru.proofs.Splits.{Contains-middle}
 use Rattle.nb_host.specs.declared.page_name.PageName.{PageName}
 use Rattle.std.proofs.lemmas.Option.{slice_get_cases}
-use Rattle.nb_cache.specs.Sound.{IsSound}
+use Rattle.nb_cache.specs.Sound.{AreResident}
 use Rattle.nb_cache.specs.Stock.{Stock, HasFrames}
 use Rattle.nb_cache.specs.View.{held_names}
 use Rattle.nb_host.specs.Page.{same_page}
@@ -127,9 +127,9 @@ pub record Forgets (file counter : ℕ) (old now : Stock) : Type 0 where
   pub others : IsWithoutFile file old.held now.held
   pub pages : now.pages ≡ old.pages
   pub frames : HasFrames (old.pages + 1) now
-  pub sound : IsSound now.pages now.held
+  pub sound : AreResident now.pages now.held
 
-pub forgets_none : (file : ℕ) (old : Stock) → IsSound old.pages old.held → HasFrames (old.pages + 1) old
+pub forgets_none : (file : ℕ) (old : Stock) → AreResident old.pages old.held → HasFrames (old.pages + 1) old
     → Forgets file 0 old old
 forgets_none file old sound frames = record {
   within = omega arith;
@@ -158,7 +158,7 @@ module _ (file counter : ℕ) (old now : Stock) (n : PageName) (so_far : Forgets
       → (n.file ≡ file → held_names new.held ≡ without (n ∷ []) (held_names now.held))
       → (n.file ≢ file → held_names new.held ≡ used now.pages (n ∷ []) (held_names now.held))
       → IsWithoutFile file now.held new.held → new.pages ≡ now.pages
-      → HasFrames (now.pages + 1) new → IsSound new.pages new.held → Forgets file (counter + 1) old new
+      → HasFrames (now.pages + 1) new → AreResident new.pages new.held → Forgets file (counter + 1) old new
   forgets_next new here other others pages frames sound = record {
     within = omega (arith, less);
     names = (elim (n.file == file) as (λ y. (n.file == file) ≡ y → held_names new.held ≡ kept file left (held_names old.held)) [

@@ -9,8 +9,8 @@ use Rattle.nb_host.specs.declared.page_name.PageName.{PageName}
 use Rattle.nb_host.specs.declared.page_name.TheConstants.{PAGE_SIZE}
 use Rattle.nb_host.proofs.Callers.{page_torn, stays_contents}
 use Rattle.nb_cache.specs.InStep.{IsCacheable, IsInStep, Fits}
-use Rattle.nb_cache.specs.Names.{without_file, held_without, IsMoved, IsWithoutFile, HasRoom}
-use Rattle.nb_cache.specs.Sound.{IsSound}
+use Rattle.nb_cache.specs.Names.{without_file, held_without, IsMoved, IsWithoutFile, SparesWaiting}
+use Rattle.nb_cache.specs.Sound.{AreResident}
 use Rattle.nb_cache.specs.View.{Held, CacheValue, Seen, Same, Waits, IsWhole, names_of, overlaid, seen}
 use Rattle.nb_cache.specs.Writes.{Writes}
 use Rattle.nb_cache.proofs.Fitting.{fits_marked, fits_rested, fits_moved, moved_view, fits_put, put_view, put_others, fits_loaded, rest_view, fits_at_once, at_once_view, fits_left, left_view, fits_emptied, emptied_view}
@@ -18,7 +18,7 @@ use Rattle.nb_cache.proofs.Torn.{length_overlaid, view_torn}
 use Rattle.nb_cache.proofs.Writing.{writes_nothing, writes_file}
 
 -- the host's page is whole in the view
-pub whole_of : (c : CacheValue) (image : Image) (k : PageName) → IsSound c.pages c.held → HasPage (image.file k.file) k.page
+pub whole_of : (c : CacheValue) (image : Image) (k : PageName) → AreResident c.pages c.held → HasPage (image.file k.file) k.page
     → IsWhole c image k
 whole_of c image k sound has = let all = length_overlaid k.file c.held (image.file k.file) sound.whole in omega (arith, all, has)
 
@@ -51,7 +51,7 @@ module _ {H : Type 0} (m : HostModel H) (cache : CacheValue) {old : H} (after : 
         pages count tally [] leads (λ file has. absurd (Contains-nil file (subst (λ l. Contains l file) cleared has)))
         (λ _ file _. seen_same held leads file)
 
-    module _ (unwritten : after.unwritten ≡ cache.unwritten) (sound : IsSound cache.pages cache.held) where
+    module _ (unwritten : after.unwritten ≡ cache.unwritten) (sound : AreResident cache.pages cache.held) where
       was : (file : ℕ) → Contains after.unwritten file → Contains cache.unwritten file
       was file has = subst (λ l. Contains l file) unwritten has
 
@@ -65,7 +65,7 @@ module _ {H : Type 0} (m : HostModel H) (cache : CacheValue) {old : H} (after : 
           (λ _ file _. moved_view name cache.pages cache.held after.held moved sound file ((m.contents new).file file)
           ∙ ap (λ (i : Image). overlaid file cache.held (i.file file)) (stays_contents leads))
 
-      module _ (k : PageName) (bytes : List ℕ) (full : length bytes ≡ PAGE_SIZE) (place : IsCacheable k) (room : HasRoom k cache.pages cache.held) where
+      module _ (k : PageName) (bytes : List ℕ) (full : length bytes ≡ PAGE_SIZE) (place : IsCacheable k) (room : SparesWaiting k cache.pages cache.held) where
         -- a page was read in
         pub writes_loaded : after.held ≡ record { name = k; bytes = bytes; waiting = false } ∷ take (cache.pages - 1) (held_without k cache.held)
             → (Contains (names_of cache) k → ⊥)
@@ -112,7 +112,7 @@ module _ {H : Type 0} (m : HostModel H) (cache : CacheValue) {old : H} (after : 
           }
 
 -- a page was placed that rests, and the host wrote it
-module _ {H : Type 0} (m : HostModel H) (cache : CacheValue) {old : H} (kept : CacheValue) {new : H} (in_step : IsInStep m cache old) (k : PageName) (bytes : List ℕ) (full : length bytes ≡ PAGE_SIZE) (place : IsCacheable k) (room : HasRoom k cache.pages cache.held) (sound : IsSound cache.pages cache.held) (held : kept.held ≡ record { name = k; bytes = bytes; waiting = false } ∷ take (cache.pages - 1) (held_without k cache.held)) (unwritten : kept.unwritten ≡ cache.unwritten) (absent : Contains (names_of cache) k → ⊥) (leads : Leads m (FileBecomes k.file (IsTorn (page_start k.page) (length bytes))) old new) where
+module _ {H : Type 0} (m : HostModel H) (cache : CacheValue) {old : H} (kept : CacheValue) {new : H} (in_step : IsInStep m cache old) (k : PageName) (bytes : List ℕ) (full : length bytes ≡ PAGE_SIZE) (place : IsCacheable k) (room : SparesWaiting k cache.pages cache.held) (sound : AreResident cache.pages cache.held) (held : kept.held ≡ record { name = k; bytes = bytes; waiting = false } ∷ take (cache.pages - 1) (held_without k cache.held)) (unwritten : kept.unwritten ≡ cache.unwritten) (absent : Contains (names_of cache) k → ⊥) (leads : Leads m (FileBecomes k.file (IsTorn (page_start k.page) (length bytes))) old new) where
   abbrev rest : Held
   rest = record { name = k; bytes = bytes; waiting = false }
 
@@ -178,7 +178,7 @@ module _ {H : Type 0} (m : HostModel H) (cache : CacheValue) {old : H} (kept : C
         ∙ ap (λ l. overlaid file cache.held l) ((leads.contents tells).others file other))
 
 -- the pages of a file were taken out, and the host cut it
-module _ {H : Type 0} (m : HostModel H) (cache : CacheValue) {old : H} (after : CacheValue) {new : H} (in_step : IsInStep m cache old) (sound : IsSound cache.pages cache.held) (file : ℕ) (others : IsWithoutFile file cache.held after.held) (names : names_of after ≡ without_file file (names_of cache)) (leads : Leads m (FileBecomes file (IsPartlyCut 0)) old new) where
+module _ {H : Type 0} (m : HostModel H) (cache : CacheValue) {old : H} (after : CacheValue) {new : H} (in_step : IsInStep m cache old) (sound : AreResident cache.pages cache.held) (file : ℕ) (others : IsWithoutFile file cache.held after.held) (names : names_of after ≡ without_file file (names_of cache)) (leads : Leads m (FileBecomes file (IsPartlyCut 0)) old new) where
   pub cut_view : seen m after new file ≡ (m.contents new).file file
   cut_view = emptied_view cache after file others names ((m.contents new).file file)
 

@@ -13,7 +13,7 @@ use Rattle.nb_cache.specs.InStep.{IsCacheable}
 use Rattle.nb_cache.specs.Names.{without, used, held_without, settled, IsMoved}
 use Rattle.nb_cache.specs.Stock.{Stock, held_of}
 use Rattle.nb_cache.specs.View.{Held, Waits, held_names, shown}
-use Rattle.nb_cache.specs.Sound.{IsSound}
+use Rattle.nb_cache.specs.Sound.{AreResident}
 use Rattle.nb_cache.specs.declared.frame.Frame.{Frame}
 use Rattle.nb_host.proofs.Callers.{same_page_eq, same_page_apart}
 use Rattle.nb_cache.proofs.Pages.{others, found_key, promoted-others, keys-promoted, put_entries-others, keys-put, remove_entry-others, keys_of-others}
@@ -73,9 +73,9 @@ module _ (frames : LruCache PageName Frame) (spare room : ℕ) (old : Stock) (sh
   old_names = ap (λ (s : Stock). held_names s.held) (sym shows) ∙ names_of-held frames.entries
 
   pub sound_now : IsValid same_page frames → ((h : Held) → Contains (held_of frames.entries) h → IsCacheable h.name)
-      → IsSound old.pages old.held
+      → AreResident old.pages old.held
   sound_now valid places =
-      subst (λ (s : Stock). IsSound s.pages s.held) shows (sound frames.entries frames.cap valid places)
+      subst (λ (s : Stock). AreResident s.pages s.held) shows (sound frames.entries frames.cap valid places)
 
   pub resident_found : (k : PageName) → is_some (lookup (same_page k) frames.entries) ≡ true → Contains (held_names old.held) k
   resident_found k found = subst (λ l. Contains l k) (sym old_names) (key_of_found k frames.entries found)

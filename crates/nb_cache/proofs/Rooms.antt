@@ -5,8 +5,8 @@ use Rattle.lru.proofs.Splits.{Contains-head, Contains-tail, Contains-cons, Conta
 use Rattle.nb_host.specs.Page.{same_page}
 use Rattle.nb_host.specs.declared.page_name.PageName.{PageName}
 use Rattle.nb_host.proofs.Callers.{same_page_apart}
-use Rattle.nb_cache.specs.Names.{held_without, settled, HasRoom}
-use Rattle.nb_cache.specs.Sound.{IsSound}
+use Rattle.nb_cache.specs.Names.{held_without, settled, SparesWaiting}
+use Rattle.nb_cache.specs.Sound.{AreResident}
 use Rattle.nb_cache.specs.View.{Held, held_names}
 use Rattle.nb_cache.proofs.Fitting.{name_there}
 use Rattle.nb_cache.proofs.Forgetting.{is_some_last}
@@ -31,18 +31,18 @@ shorter k (g ∷ held) h has named = (elim (same_page k g.name) as (λ y. same_p
   ])
 ]) refl
 
-none_leaves : (name : PageName) (pages : ℕ) (held : List Held) → length (held_without name held) ≤ pages - 1 → HasRoom name pages held
+none_leaves : (name : PageName) (pages : ℕ) (held : List Held) → length (held_without name held) ≤ pages - 1 → SparesWaiting name pages held
 none_leaves name pages held few = record {
   leaves = λ h has.
       absurd (Contains-nil h (subst (λ l. Contains l h) (drop_all (pages - 1) (held_without name held) few) has));
 }
 
-pub room_few : (name : PageName) (pages : ℕ) (held : List Held) → length (held_names held) < pages → HasRoom name pages held
+pub room_few : (name : PageName) (pages : ℕ) (held : List Held) → length (held_names held) < pages → SparesWaiting name pages held
 room_few name pages held few =
     none_leaves name pages held (omega (arith, few, length-map held (λ (h : Held). h.name), length_without name held))
 
-pub room_resident : (name : PageName) (pages : ℕ) (held : List Held) → IsSound pages held → Contains (held_names held) name
-    → HasRoom name pages held
+pub room_resident : (name : PageName) (pages : ℕ) (held : List Held) → AreResident pages held → Contains (held_names held) name
+    → SparesWaiting name pages held
 room_resident name pages held sound has =
     let one = named held has in
     none_leaves name pages held
@@ -57,7 +57,7 @@ room_resident name pages held sound has =
 
 -- no page is the last
 pub room_none : (name : PageName) (pages : ℕ) (held : List Held) → 0 < pages
-    → None ≡ slice_get (held_names held) (length (held_names held) - 1) → HasRoom name pages held
+    → None ≡ slice_get (held_names held) (length (held_names held) - 1) → SparesWaiting name pages held
 room_none name pages held positive none = elim (some (length (held_names held))) [
   | inl zero_long ↦ room_few name pages held (omega (arith, zero_long, positive))
   | inr more ↦ absurd (is_some_last (held_names held) more (sym none))
@@ -84,9 +84,9 @@ last_only (x ∷ y ∷ ys) last h is has =
     (subst (λ i. Contains (drop i (x ∷ y ∷ ys)) h) helds has)
 
 -- the last page was written
-pub room_settled : (name : PageName) (pages : ℕ) (old new : List Held) (last : PageName) → IsSound pages old
+pub room_settled : (name : PageName) (pages : ℕ) (old new : List Held) (last : PageName) → AreResident pages old
     → pages ≤ length (held_names old) → (Contains (held_names old) name → ⊥)
-    → Some last ≡ slice_get (held_names old) (length (held_names old) - 1) → new ≡ settled last old → HasRoom name pages new
+    → Some last ≡ slice_get (held_names old) (length (held_names old) - 1) → new ≡ settled last old → SparesWaiting name pages new
 room_settled name pages old new last sound full absent is settles = record {
   leaves = λ h has.
       let lacks : Lacks name (settled last old) = elim (there_or_lacks name (settled last old)) [

@@ -7,7 +7,7 @@ use Rattle.nb_host.specs.declared.page_name.PageName.{PageName}
 use Rattle.nb_host.specs.declared.page_name.TheConstants.{PAGE_SIZE}
 use Rattle.nb_cache.specs.InStep.{IsInStep}
 use Rattle.nb_cache.specs.Names.{settled}
-use Rattle.nb_cache.specs.Sound.{IsSound}
+use Rattle.nb_cache.specs.Sound.{AreResident}
 use Rattle.nb_cache.specs.View.{Held, CacheValue}
 use Rattle.nb_cache.specs.Writes.{Writes}
 use Rattle.nb_cache.proofs.Fitting.{fits_under, fits_settled, view_stays, settled_view}
@@ -16,7 +16,7 @@ use Rattle.nb_cache.proofs.Writing.{writes_late}
 abbrev pub page : PageName → List ℕ → Held
 page name bytes = record { name = name; bytes = bytes; waiting = true }
 
-module _ {H : Type 0} (m : HostModel H) (cache : CacheValue) (old new : H) (k : PageName) (bytes : List ℕ) (has : Contains cache.held (page k bytes)) (sound : IsSound cache.pages cache.held) (in_step : IsInStep m cache old) (leads : Leads m (FileBecomes k.file (IsTorn (page_start k.page) (length bytes))) old new) (count : m.faults old ≤ m.faults new) (tally : m.tally new ≡ m.tally old) where
+module _ {H : Type 0} (m : HostModel H) (cache : CacheValue) (old new : H) (k : PageName) (bytes : List ℕ) (has : Contains cache.held (page k bytes)) (sound : AreResident cache.pages cache.held) (in_step : IsInStep m cache old) (leads : Leads m (FileBecomes k.file (IsTorn (page_start k.page) (length bytes))) old new) (count : m.faults old ≤ m.faults new) (tally : m.tally new ≡ m.tally old) where
   torn : IsTrue m.tells → FileBecomes k.file (IsTorn (page_start k.page) PAGE_SIZE) (m.contents old) (m.contents new)
   torn tells =
       subst (λ n. FileBecomes k.file (IsTorn (page_start k.page) n) (m.contents old) (m.contents new))

@@ -7,7 +7,7 @@ use Rattle.nb_host.specs.declared.page_name.PageName.{PageName}
 use Rattle.nb_host.specs.declared.page_name.TheConstants.{PAGE_SIZE}
 use Rattle.nb_host.proofs.Callers.{same_page_eq, same_page_apart}
 use Rattle.nb_cache.specs.InStep.{Fits}
-use Rattle.nb_cache.specs.Sound.{IsSound}
+use Rattle.nb_cache.specs.Sound.{AreResident}
 use Rattle.nb_cache.specs.View.{Held, CacheValue, held_names, shown, view_of}
 use Rattle.nb_cache.proofs.Fitting.{held_page}
 
@@ -24,7 +24,7 @@ shown_has (h ∷ held) name bytes is = (elim (same_page name h.name) as (λ y. s
 ]) refl
 
 -- what is shown is the view's page
-pub shown_page : (c : CacheValue) (image : Image) (name : PageName) (bytes : List ℕ) → IsSound c.pages c.held → Fits c image
+pub shown_page : (c : CacheValue) (image : Image) (name : PageName) (bytes : List ℕ) → AreResident c.pages c.held → Fits c image
     → shown c.held name ≡ Some bytes
     → (bytes ≡ page_of (view_of c image name.file) name.page) × (length bytes ≡ PAGE_SIZE)
 shown_page c image name bytes sound fits is =

@@ -44,5 +44,5 @@ pub record IsWithoutFile (file : ℕ) (old new : List Held) : Type 0 where
   pub view : (other : ℕ) (bytes : List ℕ) → other ≢ file → overlaid other new bytes ≡ overlaid other old bytes
 
 -- In a cache of so many pages, no page that waits leaves for this one.
-pub record HasRoom (name : PageName) (pages : ℕ) (held : List Held) : Type 0 where
+pub record SparesWaiting (name : PageName) (pages : ℕ) (held : List Held) : Type 0 where
   pub leaves : (h : Held) → Contains (drop (pages - 1) (held_without name held)) h → h.waiting ≡ false

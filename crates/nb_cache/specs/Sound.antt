@@ -7,7 +7,7 @@ use Rattle.nb_cache.specs.InStep.{IsCacheable}
 use Rattle.nb_cache.specs.View.{Held, held_names}
 
 -- the resident pages of a cache of so many pages
-pub record IsSound (pages : ℕ) (held : List Held) : Type 0 where
+pub record AreResident (pages : ℕ) (held : List Held) : Type 0 where
   pub distinct : IsDistinct same_page (held_names held)
   pub bound : length (held_names held) ≤ pages
   pub positive : 0 < pages

@@ -7,9 +7,9 @@ ghost use Rattle.nb_host.specs.Image.{Image, IsOverwritten, IsTorn, IsPartlyCut}
 ghost use Rattle.nb_host.specs.Meaning.{Ran};
 ghost use Rattle.nb_host.specs.Page.{IsRising, page_of, page_start};
 ghost use Rattle.nb_host.specs.declared.page_name.PageName.{PageName as PageNames};
-ghost use Rattle.nb_cache.specs.Names.{used, without_file, held_without, settled, HasRoom};
+ghost use Rattle.nb_cache.specs.Names.{used, without_file, held_without, settled, SparesWaiting};
 ghost use Rattle.nb_cache.specs.InStep.{IsCachedFile, IsCacheable, IsInStep, Fits};
-ghost use Rattle.nb_cache.specs.Sound.{IsSound};
+ghost use Rattle.nb_cache.specs.Sound.{AreResident};
 ghost use Rattle.nb_cache.specs.View.{names_of, shown, view_of, seen, Seen, Same, IsWhole, IsFirstShort};
 ghost use Rattle.nb_cache.specs.Writes.{RanCached};
 
@@ -82,7 +82,7 @@ impl Cache {
     /// How many pages are resident. A call begins with it, since it tells the proof what holds of a cache.
     fn len(&self) -> usize
         ensures count { result ≡ length (names_of self.now) }
-        ensures sound { IsSound self.now.pages self.now.held }
+        ensures sound { AreResident self.now.pages self.now.held }
     {
         self.frames.len()
     }
@@ -226,7 +226,7 @@ impl Cache {
         ensures ends { (other : PageNames) → result ≡ Err (CacheError.Short other)
             → IsTrue H.meaning.tells → IsWhole self.old (H.meaning.contents host.old) name → ⊥ }
         ensures unwritten { self.new.unwritten ≡ self.old.unwritten }
-        ensures sound { IsSound self.new.pages self.new.held }
+        ensures sound { AreResident self.new.pages self.new.held }
         ensures ran { RanCached H.meaning CacheError.Fault [] self.old host.old self.new host.new result }
     {
         let _ = self.len();
@@ -241,7 +241,7 @@ impl Cache {
     fn read_in<H: Host>(&mut self, host: &mut H, name: PageName) -> Result<(), CacheError>
         requires name { IsCacheable name }
         requires absent { Contains (names_of self.old) name → ⊥ }
-        requires room { HasRoom name self.old.pages self.old.held }
+        requires room { SparesWaiting name self.old.pages self.old.held }
         requires in_step { IsInStep H.meaning self.old host.old }
         ensures resident { OnOk result (names_of self.new
             ≡ used self.old.pages (name ∷ []) (names_of self.old)) }
@@ -251,7 +251,7 @@ impl Cache {
         ensures ends { (other : PageNames) → result ≡ Err (CacheError.Short other)
             → IsTrue H.meaning.tells → IsWhole self.old (H.meaning.contents host.old) name → ⊥ }
         ensures unwritten { self.new.unwritten ≡ self.old.unwritten }
-        ensures sound { IsSound self.new.pages self.new.held }
+        ensures sound { AreResident self.new.pages self.new.held }
         ensures ran { RanCached H.meaning CacheError.Fault [] self.old host.old self.new host.new result }
     {
         let _ = self.len();
@@ -303,9 +303,9 @@ impl Cache {
     fn make_room<H: Host>(&mut self, host: &mut H, name: PageName) -> Result<(), CacheError>
         requires in_step { IsInStep H.meaning self.old host.old }
         ensures resident { names_of self.new ≡ names_of self.old }
-        ensures room { OnOk result (HasRoom name self.new.pages self.new.held) }
+        ensures room { OnOk result (SparesWaiting name self.new.pages self.new.held) }
         ensures unwritten { self.new.unwritten ≡ self.old.unwritten }
-        ensures sound { IsSound self.new.pages self.new.held }
+        ensures sound { AreResident self.new.pages self.new.held }
         ensures host_refusal { (other : PageNames) → result ≢ Err (CacheError.Short other) }
         ensures ran { RanCached H.meaning CacheError.Fault [] self.old host.old self.new host.new result }
     {
@@ -329,7 +329,7 @@ impl Cache {
         ensures settled { OnOk result (self.new.held ≡ settled name self.old.held) }
         ensures refusal { OnErr result (self.new.held ≡ self.old.held) }
         ensures unwritten { self.new.unwritten ≡ self.old.unwritten }
-        ensures sound { IsSound self.new.pages self.new.held }
+        ensures sound { AreResident self.new.pages self.new.held }
         ensures host_refusal { (other : PageNames) → result ≢ Err (CacheError.Short other) }
         ensures ran { RanCached H.meaning CacheError.Fault [] self.old host.old self.new host.new result }
     {
@@ -354,7 +354,7 @@ impl Cache {
         requires name { IsCacheable name }
         requires page { length bytes.now ≡ PAGE_SIZE }
         requires marked { Contains self.old.unwritten name.file }
-        requires room { HasRoom name self.old.pages self.old.held }
+        requires room { SparesWaiting name self.old.pages self.old.held }
         requires joins { IsTrue joins → IsTrue H.meaning.tells
             → page_start name.page ≤ length (seen H.meaning self.old host.old name.file) }
         requires absent { joins ≡ false → Contains (names_of self.old) name → ⊥ }
@@ -368,7 +368,7 @@ impl Cache {
         ensures no_memory { result ≡ Err CacheError.NoMemory → (file : ℕ)
             → Seen H.meaning file Same self.old host.old self.new host.new }
         ensures unwritten { self.new.unwritten ≡ self.old.unwritten }
-        ensures sound { IsSound self.new.pages self.new.held }
+        ensures sound { AreResident self.new.pages self.new.held }
         ensures host_refusal { (other : PageNames) → result ≢ Err (CacheError.Short other) }
         ensures ran { RanCached H.meaning CacheError.Fault (name.file ∷ []) self.old host.old
             self.new host.new result }
@@ -399,7 +399,7 @@ impl Cache {
         ensures refusal { OnErr result (self.new.held ≡ self.old.held) }
         ensures pages { self.new.pages ≡ self.old.pages }
         ensures unwritten { self.new.unwritten ≡ self.old.unwritten }
-        ensures sound { IsSound self.new.pages self.new.held }
+        ensures sound { AreResident self.new.pages self.new.held }
     {
         let mut frame = self.frames.take();
         frame.fill(bytes);

@@ -4,7 +4,7 @@ ghost use Rattle.std.specs.Prelude.{◌≡◌, ◌≢◌, ℕ, List, Bool, ◌+�
 ghost use Rattle.nb_host.specs.declared.page_name.PageName.{PageName as PageNames};
 ghost use Rattle.nb_cache.specs.InStep.{IsCacheable};
 ghost use Rattle.nb_cache.specs.Names.{used, without, without_file, held_without, settled, IsMoved, IsWithoutFile};
-ghost use Rattle.nb_cache.specs.Sound.{IsSound};
+ghost use Rattle.nb_cache.specs.Sound.{AreResident};
 ghost use Rattle.nb_cache.specs.Stock.{HasFrames};
 ghost use Rattle.nb_cache.specs.View.{Held, Waits, held_names, shown, overlaid};
 
@@ -74,7 +74,7 @@ impl Frames {
     /// How many pages are resident. Like the map's `len`, it tells the proof what holds of them.
     pub(crate) fn len(&self) -> usize
         ensures count { result ≡ length (held_names self.now.held) }
-        ensures sound { IsSound self.now.pages self.now.held }
+        ensures sound { AreResident self.now.pages self.now.held }
     {
         self.resident.len()
     }
@@ -86,7 +86,7 @@ impl Frames {
             (record { name = name; bytes = bytes.now; waiting = waiting })) }
         ensures shown { option_map (λ bytes. bytes.now) result ≡ shown self.now.held name }
         ensures whole { IfSome result (λ bytes. length bytes.now ≡ PAGE_SIZE) }
-        ensures sound { IsSound self.now.pages self.now.held }
+        ensures sound { AreResident self.now.pages self.now.held }
     {
         let _ = self.resident.len();
         match self.resident.peek(&name) {
@@ -140,7 +140,7 @@ impl Frames {
         ensures moved { IsTrue result → IsMoved name self.old.held self.new.held }
         ensures pages { self.new.pages ≡ self.old.pages }
         ensures frames { (n : ℕ) → HasFrames n self.old → HasFrames n self.new }
-        ensures sound { IsSound self.new.pages self.new.held }
+        ensures sound { AreResident self.new.pages self.new.held }
     {
         let _ = self.resident.len();
         let found = self.resident.promote(&name);
@@ -182,7 +182,7 @@ impl Frames {
         ensures refusal { OnErr result (self.new.held ≡ self.old.held) }
         ensures pages { self.new.pages ≡ self.old.pages }
         ensures frames { HasFrames (self.old.pages + 1) self.new }
-        ensures sound { IsSound self.new.pages self.new.held }
+        ensures sound { AreResident self.new.pages self.new.held }
     {
         let _ = self.resident.len();
         match self.resident.push(name, frame) {
@@ -208,7 +208,7 @@ impl Frames {
         ensures held { self.new.held ≡ held_without name self.old.held }
         ensures pages { self.new.pages ≡ self.old.pages }
         ensures frames { HasFrames (self.old.pages + 1) self.new }
-        ensures sound { IsSound self.new.pages self.new.held }
+        ensures sound { AreResident self.new.pages self.new.held }
     {
         let _ = self.resident.len();
         let gone = self.resident.pop(&name);
@@ -226,7 +226,7 @@ impl Frames {
         ensures others { IsWithoutFile file self.old.held self.new.held }
         ensures pages { self.new.pages ≡ self.old.pages }
         ensures frames { HasFrames (self.old.pages + 1) self.new }
-        ensures sound { IsSound self.new.pages self.new.held }
+        ensures sound { AreResident self.new.pages self.new.held }
     {
         let resident = self.len();
         for _ in 0..resident {
@@ -248,7 +248,7 @@ impl Frames {
         ensures others { IsWithoutFile file self.old.held self.new.held }
         ensures pages { self.new.pages ≡ self.old.pages }
         ensures frames { HasFrames (self.old.pages + 1) self.new }
-        ensures sound { IsSound self.new.pages self.new.held }
+        ensures sound { AreResident self.new.pages self.new.held }
     {
         let _ = self.len();
         if name.file == file {

@@ -2,18 +2,23 @@
 use Rattle.std.proofs.Common.{◌≡◌, ℕ, zero, suc, ◌+◌, inl, inr, Contains, IsTrue, List, [], ◌∷◌, ◌++◌, sym, ap, subst, ◌∙◌, arith, append_assoc}
 use Rattle.std.proofs.lemmas.List.{append-nil, length_push}
 use Rattle.std.proofs.lemmas.List.Elements.{Contains-append_right}
-use Rattle.nb_host.specs.Crashes.{AgreesOutside, EverySince, Stays}
-use Rattle.nb_host.specs.Image.{Image, FileBecomes}
-use Rattle.nb_host.specs.Meaning.{HostModel, IsDurableFile, Leads, Over}
-use Rattle.nb_host.proofs.Callers.{goes_on, leads_more, every_since, agrees_itself}
+use Rattle.nb_host.specs.Crashes.{AgreesOutside, EverySince}
+use Rattle.nb_host.specs.Image.{Image, FileBecomes, Spares}
+use Rattle.nb_host.specs.Meaning.{HostModel, IsDurableFile, IsLeft, Leads, Over}
+use Rattle.nb_host.proofs.Callers.{goes_on, leads_more, every_since, left_stays, others_spare}
 use Rattle.nb_model.specs.declared.body.Body.{Body}
 use Rattle.nb_format.specs.declared.snap_writer.Filling.{Filling}
 use Rattle.nb_format.specs.Snapshot.{IsSnapshot, IsUnfinished}
 use Rattle.nb_format.specs.Writer.{Plan, plan_of, IsEmptyFilling, HasFilled, HasShutGate, IsBegun, StaysShut, StaysUnfinished, Closes}
-use Rattle.nb_format.specs.Images.{IsUnfinishedNow, IsShutNow, IsFilledNow, IsBeingWritten, ChangesWith, Adds, AddsEach, IsWritten}
+use Rattle.nb_format.specs.Images.{IsUnfinishedNow, IsShutNow, IsFilledNow, IsBeingWritten, ChangesWith, AddsBody, AddsEach, IsWritten}
 use Rattle.nb_format.proofs.Closing.{shut_is_unfinished}
 use Rattle.nb_format.proofs.Reading.{last_of-push}
 use Rattle.nb_format.proofs.Writing.{begun_filled, filled_is_shut}
+
+-- the gate of a file that is being filled is shut in every image
+filled_is_shut_now : {H : Type 0} {m : HostModel H} {filling : Filling} {bodies : List Body} {host : H}
+    → IsFilledNow m filling bodies host → IsShutNow m (plan_of filling).file host
+filled_is_shut_now filled = record { reads = λ _. tt; images = filled.left.images }
 
 -- Steps.
 
@@ -61,15 +66,15 @@ call_leads : {H : Type 0} {m : HostModel H} {others : List ℕ} {plan : Plan} {f
     → Leads m (ChangesWith others plan.file Q) start now
 call_leads {m = m} {plan = plan} {filling = filling} {bodies = bodies} {P = P} {middle = middle} {now = now} being call alone both =
     let here = subst (λ (p : Plan). Leads m (FileBecomes p.file P) middle now) being.planned call in
-    let gate = subst (λ (p : Plan). IsShutNow m p.file middle) being.planned being.filled.shut in
+    let gate = subst (λ (p : Plan). IsShutNow m p.file middle) being.planned (filled_is_shut_now being.filled) in
     record {
       contents = λ tells.
-          let shut = filled_is_shut filling ((m.contents middle).file (plan_of filling).file) bodies (being.filled.filled tells) in
+          let shut = filled_is_shut filling ((m.contents middle).file (plan_of filling).file) bodies (being.filled.left.reads tells) in
           let now_shut = subst (λ (p : Plan). HasShutGate ((m.contents middle).file p.file)) being.planned shut in
           changes_then (being.since.contents tells) (here.contents tells) (λ one two. both _ _ _ tells now_shut two);
       images = goes_on being.since.images here.images (λ from image step. changes_alone alone step)
           (λ from between image honest one is two.
-          changes_then one two (λ _ step. both _ _ _ (m.tells_if_honest honest) (gate between honest is) step));
+          changes_then one two (λ _ step. both _ _ _ (m.tells_if_honest honest) (gate.images between honest is) step));
     }
 
 -- a stretch of calls on other files
@@ -106,10 +111,13 @@ being_begun {m = m} others {plan = plan} {filling = filling} {old = old} {new = 
       filled = record {
         added = empty.added;
         last = empty.last;
-        filled = λ tells.
-            subst (λ (p : Plan). HasFilled filling ((m.contents new).file p.file) []) (sym empty.plan)
-            (begun_filled plan filling ((m.contents new).file plan.file) empty (begun tells).file);
-        shut = subst (λ (p : Plan). IsShutNow m p.file new) (sym empty.plan) shut;
+        left = subst
+            (λ (p : Plan). IsLeft m p.file (λ reads. HasFilled filling reads []) (λ reads image. HasShutGate image) new)
+            (sym empty.plan)
+            (record {
+              reads = λ tells. begun_filled plan filling ((m.contents new).file plan.file) empty (begun tells).file;
+              images = shut.images;
+            });
       };
     }
 
@@ -122,7 +130,7 @@ add_leads being call =
 
 -- One `add` goes on with it.
 pub being_added : {H : Type 0} {m : HostModel H} {others : List ℕ} {plan : Plan} {filling next : Filling} {bodies : List Body} (body : Body)
-    {start old new : H} → IsBeingWritten m others plan filling bodies start old → Adds m body filling next old new
+    {start old new : H} → IsBeingWritten m others plan filling bodies start old → AddsBody m body filling next old new
     → IsBeingWritten m others plan next (bodies ++ body ∷ []) start new
 being_added {m = m} {filling = filling} {next = next} {bodies = bodies} body {new = new} being adds = record {
   planned = adds.added.plan ∙ being.planned;
@@ -130,13 +138,15 @@ being_added {m = m} {filling = filling} {next = next} {bodies = bodies} body {ne
   filled = record {
     added = adds.added.added ∙ ap (λ (n : ℕ). n + 1) being.filled.added ∙ sym (length_push bodies body);
     last = adds.added.last ∙ sym (last_of-push bodies body);
-    filled = λ tells.
-        subst (λ (p : Plan). HasFilled next ((m.contents new).file p.file) (bodies ++ body ∷ [])) (sym adds.added.plan)
-        (adds.filled bodies tells (being.filled.filled tells));
-    shut = subst (λ (p : Plan). IsShutNow m p.file new) (sym adds.added.plan)
-        (λ image honest is.
-        let from = (adds.leads.images.follows honest).now image is in
-        from.2.file (being.filled.shut from.0 honest from.1));
+    left = subst
+        (λ (p : Plan). IsLeft m p.file (λ reads. HasFilled next reads (bodies ++ body ∷ [])) (λ reads image. HasShutGate image) new)
+        (sym adds.added.plan)
+        (record {
+          reads = λ tells. adds.filled bodies tells (being.filled.left.reads tells);
+          images = λ image honest is.
+              let from = (adds.leads.images.follows honest).now image is in
+              from.2.file (being.filled.left.images from.0 honest from.1);
+        });
   };
 }
 
@@ -160,7 +170,7 @@ pub close_leads : {H : Type 0} {m : HostModel H} {others : List ℕ} {plan : Pla
 close_leads {m = m} {plan = plan} {filling = filling} {bodies = bodies} being call =
     call_leads being call (λ old new stays before. inr (stays before))
     (λ old between new tells shut step _.
-    elim (step bodies (being.filled.filled tells) shut) [
+    elim (step bodies (being.filled.left.reads tells) shut) [
       | inl is ↦ inl (subst (λ (p : Plan). IsSnapshot new bodies p.time) being.planned is)
       | inr still ↦ inr still
     ])
@@ -177,43 +187,22 @@ changes_becomes {number = number} step = record {
   only other number (zero, within, is) = sym is
   only other number (suc i, within, is) = absurd (omega arith)
 
--- What stays through calls on other files.
+-- What stays through calls that spare the file.
 
-pub unfinished_kept : {H : Type 0} {m : HostModel H} {others : List ℕ} (file : ℕ) {old new : H} → (Contains others file → ⊥)
-    → Leads m (AgreesOutside others) old new → IsUnfinishedNow m file old → IsUnfinishedNow m file new
-unfinished_kept file spared leads unfinished = λ image honest is.
-    let from = (leads.images.follows honest).now image is in
-    subst IsUnfinished (sym (from.2.others file spared)) (unfinished from.0 honest from.1)
+pub filled_kept : {H : Type 0} {m : HostModel H} {filling : Filling} {bodies : List Body} {old new : H}
+    → Leads m (Spares (plan_of filling).file) old new → IsFilledNow m filling bodies old → IsFilledNow m filling bodies new
+filled_kept {m = m} leads filled =
+    record { added = filled.added; last = filled.last; left = left_stays m leads filled.left }
 
-pub filled_kept : {H : Type 0} {m : HostModel H} {others : List ℕ} {filling : Filling} {bodies : List Body} {old new : H}
-    → (Contains others (plan_of filling).file → ⊥) → Leads m (AgreesOutside others) old new
-    → IsFilledNow m filling bodies old → IsFilledNow m filling bodies new
-filled_kept {filling = filling} {bodies = bodies} spared leads filled = record {
-  added = filled.added;
-  last = filled.last;
-  filled = λ tells.
-      subst (λ (w : List ℕ). HasFilled filling w bodies) (sym ((leads.contents tells).others (plan_of filling).file spared))
-      (filled.filled tells);
-  shut = λ image honest is.
-      let from = (leads.images.follows honest).now image is in
-      subst HasShutGate (sym (from.2.others (plan_of filling).file spared)) (filled.shut from.0 honest from.1);
-}
-
+-- and through calls on the other files
 pub being_kept : {H : Type 0} {m : HostModel H} {others : List ℕ} {plan : Plan} {filling : Filling} {bodies : List Body} {start old new : H}
     → (Contains others plan.file → ⊥) → Leads m (AgreesOutside others) old new
     → IsBeingWritten m others plan filling bodies start old → IsBeingWritten m others plan filling bodies start new
 being_kept {others = others} spared leads being = record {
   planned = being.planned;
   since = kept_leads spared being.since leads;
-  filled = filled_kept (subst (λ (p : Plan). Contains others p.file → ⊥) (sym being.planned) spared) leads being.filled;
+  filled = filled_kept (others_spare (subst (λ (p : Plan). Contains others p.file → ⊥) (sym being.planned) spared) leads) being.filled;
 }
-
-pub filled_synced : {H : Type 0} {m : HostModel H} {filling : Filling} {bodies : List Body} {old new : H}
-    → Leads m Stays old new → IsFilledNow m filling bodies old → IsFilledNow m filling bodies new
-filled_synced stays filled =
-    filled_kept {others = []} (λ has. absurd (omega (arith, has.1)))
-    (leads_more stays (λ start image same. subst (λ (i : Image). AgreesOutside [] start i) (sym same) (agrees_itself [] start)))
-    filled
 
 -- Every image since.
 
@@ -223,10 +212,13 @@ pub written_every : {H : Type 0} {m : HostModel H} {others : List ℕ} {file : �
     → Leads m (ChangesWith others file P) start now → EverySince m.crashes (λ image. Q (image.file file)) start now
 written_every {m = m} {file = file} Q at_start after unfinished leads =
     every_since (λ image. Q (image.file file)) m.counts_only_now leads.images
-    (λ image honest is. at_start (image.file file) (unfinished image honest is))
-    (λ from image honest is step. after (from.file file) (image.file file) (unfinished from honest is) step.file)
+    (λ image honest is. at_start (image.file file) (unfinished.images image honest is))
+    (λ from image honest is step. after (from.file file) (image.file file) (unfinished.images from honest is) step.file)
 
 pub unfinished_durable : {H : Type 0} (m : HostModel H) {file : ℕ} {host : H} → IsDurableFile m file host
     → (IsTrue m.tells → IsUnfinished ((m.contents host).file file)) → IsUnfinishedNow m file host
-unfinished_durable m durable unfinished = λ image honest is.
-    subst IsUnfinished (sym (durable image honest is)) (unfinished (m.tells_if_honest honest))
+unfinished_durable m durable unfinished = record {
+  reads = λ _. tt;
+  images = λ image honest is.
+      subst IsUnfinished (sym (durable image honest is)) (unfinished (m.tells_if_honest honest));
+}

@@ -90,11 +90,14 @@ header_leads {m = m} {file = file} {len = len} {middle = middle} shut is durable
 pub header_shut : {H : Type 0} {m : HostModel H} {file len : ℕ} {middle new : H}
     → (IsTrue m.tells → (m.contents middle).file file ≡ 0 ∷ []) → IsDurable m middle
     → Leads m (FileBecomes file (IsTorn 1 len)) middle new → IsShutNow m file new
-header_shut {m = m} {file = file} {len = len} {middle = middle} is durable header = λ image honest may.
-    let start = (header.images.follows honest).now image may in
-    let before = ap (λ (i : Image). i.file file) (durable start.0 honest start.1) ∙ is (m.tells_if_honest honest) in
-    behind_shut 1 len (start.0.file file) (image.file file) (omega arith) start.2.file
-    (zero_is_shut (start.0.file file) before)
+header_shut {m = m} {file = file} {len = len} {middle = middle} is durable header = record {
+  reads = λ _. tt;
+  images = λ image honest may.
+      let start = (header.images.follows honest).now image may in
+      let before = ap (λ (i : Image). i.file file) (durable start.0 honest start.1) ∙ is (m.tells_if_honest honest) in
+      behind_shut 1 len (start.0.file file) (image.file file) (omega arith) start.2.file
+      (zero_is_shut (start.0.file file) before);
+}
 
 -- where nothing changes, a file whose gate is shut is unfinished still
 still_closes : {filling : Filling} {file : ℕ} {read : List ℕ} {start image : Image} → image ≡ start

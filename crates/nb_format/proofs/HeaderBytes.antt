@@ -7,7 +7,7 @@ use Rattle.std.proofs.Math.Seq.{take-add}
 use Rattle.nb_format.specs.Snapshot.{gate, header_bytes}
 use Rattle.nb_format.proofs.Numbers.{same_u64}
 
--- the fields of a header, each at its place
+-- the fields of a header, each at its offset
 pub record HasHeader (w : List ℕ) (count time : ℕ) : Type 0 where
   pub opened : slice_index w 0 ≡ gate
   pub named : take 7 (drop 1 w) ≡ codes "NBSNAP1"

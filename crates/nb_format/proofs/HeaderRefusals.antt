@@ -13,7 +13,7 @@ use Rattle.nb_format.specs.declared.snap_error.SnapError.TheVariants as snap
 use Rattle.nb_format.specs.Snapshot.{gate, header_bytes, snapshot_length, IsHeader}
 use Rattle.nb_format.specs.SnapshotRefusal.{u64_at, header_field_refusal, header_refusal, AreBytes, IsBySnapshot}
 use Rattle.nb_format.proofs.HeaderBytes.{header_has, header_from_fields, length-header_bytes}
-use Rattle.nb_format.proofs.Places.{u64_at-spells, u64_at-fits, u64_at-back, u64_at-take, part-take}
+use Rattle.nb_format.proofs.Offsets.{u64_at-spells, u64_at-fits, u64_at-back, u64_at-take, part-take}
 
 -- ---- one test of many
 

@@ -1,6 +1,6 @@
 pub mod Parts
 pub mod Numbers
-pub mod Places
+pub mod Offsets
 pub mod HeaderBytes
 pub mod HeaderRefusals
 pub mod RecordBytes

@@ -6,24 +6,24 @@ use Rattle.std.proofs.lemmas.List.Sums.{prefix_len-le-length, fails_before_first
 use Rattle.std.proofs.lemmas.List.Splits.{slice_split_first, slice_split_none}
 use Rattle.nb_format.specs.ParamsText.{is_line_end, lines_of}
 
--- p passes first at place i
-pub record IsPlace {X : Type 0} (p : X → Bool) (xs : List X) (i : ℕ) : Type 0 where
-  pub place : position_or_len p xs ≡ i
+-- p passes first at index i
+pub record IsFirstIndex {X : Type 0} (p : X → Bool) (xs : List X) (i : ℕ) : Type 0 where
+  pub index : position_or_len p xs ≡ i
   pub within : i < length xs
 
-pub IsPlace-position : {X : Type 0} (p : X → Bool) (xs : List X) (i : ℕ) → Some i ≡ position p xs → IsPlace p xs i
-IsPlace-position p xs i e = record { place = grind (arith, nat_tests); within = grind (arith, nat_tests) }
+pub IsFirstIndex-position : {X : Type 0} (p : X → Bool) (xs : List X) (i : ℕ) → Some i ≡ position p xs → IsFirstIndex p xs i
+IsFirstIndex-position p xs i e = record { index = grind (arith, nat_tests); within = grind (arith, nat_tests) }
 
 pub position_or_len-none : {X : Type 0} (p : X → Bool) (xs : List X) → None ≡ position p xs → position_or_len p xs ≡ length xs
 position_or_len-none p xs e = let least = prefix_len-le-length (λ x. not (p x)) xs in grind (arith, nat_tests)
 
 pub lines_of-some : (text : List ℕ) (i : ℕ) → Some i ≡ position is_line_end text → lines_of text ≡ take i text ∷ lines_of (drop (i + 1) text)
 lines_of-some text i e =
-    let is = IsPlace-position is_line_end text i e in
-    let place : position_or_len is_line_end text ≡ i = is.place in
-    let within : position_or_len is_line_end text < length text = omega (arith, is.place, is.within) in
+    let is = IsFirstIndex-position is_line_end text i e in
+    let index : position_or_len is_line_end text ≡ i = is.index in
+    let within : position_or_len is_line_end text < length text = omega (arith, is.index, is.within) in
     let split = slice_split_first is_line_end text 0 within in
-    rw place at split
+    rw index at split
 
 pub lines_of-none : (text : List ℕ) → None ≡ position is_line_end text → lines_of text ≡ text ∷ []
 lines_of-none text e =

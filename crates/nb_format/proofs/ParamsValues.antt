@@ -11,7 +11,7 @@ use Rattle.nb_format.specs.declared.params_line.Line.{Line}
 use Rattle.nb_format.specs.declared.params_line.Line.TheVariants.{Skipped, Malformed, Setting, Border}
 use Rattle.nb_format.specs.declared.params_reader.Values.{Values}
 use Rattle.nb_format.specs.ParamsText.{no_values, is_read, is_in_range, line_of, with_line, with_lines, result_and_then, read_value, assembled_params, unless_missing, params_from, params_of, most_text, lines_of, NamesParameter}
-use Rattle.nb_format.proofs.ParamsLines.{IsPlace-position, position_or_len-none}
+use Rattle.nb_format.proofs.ParamsLines.{IsFirstIndex-position, position_or_len-none}
 
 -- the values, from the parameter of this number on, are in their ranges
 abbrev pub Within : ℕ → List (Option ℕ) → Type 0
@@ -147,7 +147,7 @@ unless_missing-names (Some which) params below = below which refl
 params_from-names : (values : Values) → AreWithin values → IfErr (params_from values) NamesParameter
 params_from-names values are =
     unless_missing-names (position is_none values.numbers) (assembled_params values)
-    (λ which some. omega (arith, are.six, (IsPlace-position is_none values.numbers which some).within))
+    (λ which some. omega (arith, are.six, (IsFirstIndex-position is_none values.numbers which some).within))
 
 if-in_range : (long : Bool) (r : Result Params ParamsError) → IfOk r AreInRange → IfOk (if long then Err refused.Long else r) AreInRange
 if-in_range true r in_range = tt

@@ -1,4 +1,4 @@
--- Nine lists of a record's field lengths, end to end, and the places where each stands.
+-- Nine lists of a record's field lengths, end to end, and the offsets at which each stands.
 use Rattle.std.proofs.Common.{◌≡◌, ℕ, ◌+◌, List, [], ◌++◌, length, take, drop, refl, sym, ap, ◌∙◌, append_assoc, arith, length-append}
 use Rattle.std.proofs.lemmas.List.{take_at, drop_at, take_all, append-nil}
 use Rattle.std.proofs.Math.Seq.{take-add}
@@ -18,7 +18,7 @@ pub record HaveLengths (a b c d e f g h i : List ℕ) : Type 0 where
   pub vy : length h ≡ 8
   pub vz : length i ≡ 8
 
--- each of them at its place in a list
+-- each of them at its offset in a list
 pub record StandIn (w a b c d e f g h i : List ℕ) : Type 0 where
   pub id : take 8 w ≡ a
   pub mass : take 4 (drop 8 w) ≡ b

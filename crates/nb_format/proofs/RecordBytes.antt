@@ -69,7 +69,7 @@ same_flag false false same = refl
 same_flag true false same = absurd (omega arith)
 same_flag false true same = absurd (omega arith)
 
--- fields that fit their places
+-- fields that fit their lengths
 pub record Fit (f : Fields) : Type 0 where
   pub id : f.id < 2 ^ 64
   pub mass : f.mass < 2 ^ 32
@@ -79,7 +79,7 @@ pub record Fit (f : Fields) : Type 0 where
   pub z : f.at.z < 2 ^ 64
   pub velocity : FitsRecord f.v
 
--- each field at its place
+-- each field at its offset
 abbrev pub HaveFields : List ℕ → Fields → Type 0
 HaveFields w f =
     StandIn w (to_le_bytes w64 f.id) (to_le_bytes w32 f.mass) (to_le_bytes w32 f.flag) (to_le_bytes w64 f.at.x)

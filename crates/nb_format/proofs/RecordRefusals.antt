@@ -18,7 +18,7 @@ use Rattle.nb_format.specs.Fields.{fields_of, fields_bytes}
 use Rattle.nb_model.specs.Bytes.{body_bytes}
 use Rattle.nb_format.specs.Snapshot.{IsStoredBody}
 use Rattle.nb_format.specs.SnapshotRefusal.{u64_at, i64_at, fields_at, field_refusal, record_refusal, is_in_box, is_slow, is_above, AreBytes}
-use Rattle.nb_format.proofs.Places.{u32_at-spells, u64_at-spells, u32_at-fits, u64_at-fits, u32_at-back, u64_at-back}
+use Rattle.nb_format.proofs.Offsets.{u32_at-spells, u64_at-spells, u32_at-fits, u64_at-fits, u32_at-back, u64_at-back}
 use Rattle.nb_format.proofs.RecordBytes.{Fit, HaveFields, have_fields, body_bytes_is, stored_fit, fields_decoded, cast_unsigned_fits}
 use Rattle.nb_format.proofs.HeaderRefusals.{if_none, if_by, none_by, IsOfBytes}
 
@@ -138,7 +138,7 @@ field_accepted i f fit none =
       },
     )
 
--- ---- the fields at their places
+-- ---- the fields at their offsets
 
 signed_at : (w : List ℕ) (at : ℕ) (z : ℤ) → FitsSigned w64 z → take 8 (drop at w) ≡ to_le_bytes w64 (cast_unsigned w64 z) → i64_at at w ≡ z
 signed_at w at z fits is =

@@ -12,7 +12,7 @@ use Rattle.nb_format.specs.declared.params_line.Line.TheVariants.{Skipped, Malfo
 use Rattle.nb_format.specs.Digits.{decimal_value, is_number}
 use Rattle.nb_format.specs.ParamsText.{is_equals, trimmed, parameters, which_of, edge_name, edge_of, edge_setting, number_setting, setting_of, content_of, line_of}
 use Rattle.nb_format.specs.ParamsReading.{SetsParameter}
-use Rattle.nb_format.proofs.ParamsLines.{IsPlace-position, position_or_len-none}
+use Rattle.nb_format.proofs.ParamsLines.{IsFirstIndex-position, position_or_len-none}
 
 nothing-by : (edge : Bool) (which : Option ℕ) → (if edge then edge_setting (edge_of []) else number_setting which []) ≡ Malformed
 nothing-by true which = refl
@@ -30,7 +30,7 @@ if-sets false l m first second = second
 
 found-below : (name : List ℕ) (found : Option ℕ) → found ≡ position (λ p. bytes_eq p.name name) parameters → IfSome found (λ which. which < length parameters)
 found-below name None is = tt
-found-below name (Some which) is = (IsPlace-position (λ p. bytes_eq p.name name) parameters which is).within
+found-below name (Some which) is = (IsFirstIndex-position (λ p. bytes_eq p.name name) parameters which is).within
 
 number-sets : (found : Option ℕ) (value : List ℕ) → IfSome found (λ which. which < length parameters) → SetsParameter (number_setting found value)
 number-sets None value below = tt

@@ -19,7 +19,7 @@ use Rattle.nb_format.specs.Snapshot.{header_bytes, snapshot_length, IsStoredBody
 use Rattle.nb_format.specs.Reader.{count_of, time_of, read_count, last_id, last_of, HasRead}
 use Rattle.nb_format.specs.SnapshotRefusal.{u64_at, header_refusal, record_refusal, record_at, id_before, records_refusal, snapshot_refusal, AreBytes, IsBySnapshot}
 use Rattle.nb_format.proofs.HeaderRefusals.{option_or_none, option_or_some, option_or_second, header_none, file_count, header_accepted, header_by, none_by, option_or_by, HasForm, IsOfBytes}
-use Rattle.nb_format.proofs.Places.{part-take}
+use Rattle.nb_format.proofs.Offsets.{part-take}
 use Rattle.nb_format.proofs.RecordBytes.{length-body_bytes}
 use Rattle.nb_format.proofs.RecordRefusals.{record_none, record_id, record_accepted, record_by}
 use Rattle.nb_format.proofs.Snapshots.{length-records, snapshot_header, snapshot_records, snapshot_whole}
@@ -43,7 +43,7 @@ body_at bodies n = get_or bodies n no_body
 parted : (bodies : List Body) (n : ℕ) → n < length bodies → bodies ≡ take n bodies ++ body_at bodies n ∷ drop (suc n) bodies
 parted bodies n inside = split_at bodies n no_body inside
 
--- a record of the list stands at its place
+-- a record of the list stands at its offset
 record_at-is : (bytes : List ℕ) (bodies : List Body) (n : ℕ) → HasRecords bytes bodies → n < length bodies
     → record_at n bytes ≡ body_bytes (body_at bodies n)
 record_at-is bytes bodies n has inside =

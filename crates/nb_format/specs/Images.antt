@@ -1,32 +1,32 @@
 -- What the calls of a snapshot writer need of their file between `begin` and `close`, and what they make of it in every
 -- image.
-use Rattle.std.specs.Prelude.{◌≡◌, ℕ, ◌⊎◌, IsTrue, List, [], ◌∷◌, ◌++◌, length}
+use Rattle.std.specs.Prelude.{◌≡◌, ℕ, ⊤, ◌⊎◌, IsTrue, List, [], ◌∷◌, ◌++◌, length}
 use Rattle.nb_model.specs.declared.body.Body.{Body}
 use Rattle.nb_host.specs.Crashes.{AgreesOutside}
 use Rattle.nb_host.specs.Image.{Image, FileBecomes}
-use Rattle.nb_host.specs.Meaning.{HostModel, Leads}
+use Rattle.nb_host.specs.Meaning.{HostModel, IsLeft, Leads}
 use Rattle.nb_format.specs.declared.snap_writer.Filling.{Filling}
 use Rattle.nb_format.specs.Snapshot.{IsSnapshot, IsUnfinished}
 use Rattle.nb_format.specs.Reader.{last_of}
 use Rattle.nb_format.specs.Writer.{Plan, plan_of, added_count, last_added, HasFilled, HasOneMore, HasShutGate, StaysShut, StaysUnfinished}
 
+-- What a call needs of its file is that it is as the one before left it, since it stays so through calls that spare it
+-- (`law_filling_kept`).
+
 -- Before `begin`: the file is unfinished in every image.
 abbrev pub IsUnfinishedNow : {H : Type 0} → HostModel H → ℕ → H → Type 0
-IsUnfinishedNow m file host = (image : Image) → IsTrue m.crashes.is_honest → m.crashes.may_leave host image
-    → IsUnfinished (image.file file)
+IsUnfinishedNow m file host = IsLeft m file (λ reads. ⊤) (λ reads image. IsUnfinished image) host
 
 -- From `begin` to `close`: the file's gate is shut in every image.
 abbrev pub IsShutNow : {H : Type 0} → HostModel H → ℕ → H → Type 0
-IsShutNow m file host = (image : Image) → IsTrue m.crashes.is_honest → m.crashes.may_leave host image
-    → HasShutGate (image.file file)
+IsShutNow m file host = IsLeft m file (λ reads. ⊤) (λ reads image. HasShutGate image) host
 
 -- The file is as the writer's last call left it: these bodies were added, over any host; the file holds them; and its gate is
 -- shut in every image.
 pub record IsFilledNow {H : Type 0} (m : HostModel H) (filling : Filling) (bodies : List Body) (host : H) : Type 0 where
   pub added : added_count filling ≡ length bodies
   pub last : last_added filling ≡ last_of bodies
-  pub filled : IsTrue m.tells → HasFilled filling ((m.contents host).file (plan_of filling).file) bodies
-  pub shut : IsShutNow m (plan_of filling).file host
+  pub left : IsLeft m (plan_of filling).file (λ reads. HasFilled filling reads bodies) (λ reads image. HasShutGate image) host
 
 -- The writer's calls, one after the other, perhaps with calls on other files between them.
 
@@ -43,7 +43,7 @@ pub record IsBeingWritten {H : Type 0} (m : HostModel H) (others : List ℕ) (pl
   pub filled : IsFilledNow m filling bodies now
 
 -- One `add`, by its clauses.
-pub record Adds {H : Type 0} (m : HostModel H) (body : Body) (filling next : Filling) (old new : H) : Type 0 where
+pub record AddsBody {H : Type 0} (m : HostModel H) (body : Body) (filling next : Filling) (old new : H) : Type 0 where
   pub added : HasOneMore body filling next
   pub filled : (bodies : List Body) → IsTrue m.tells
       → HasFilled filling ((m.contents old).file (plan_of filling).file) bodies
@@ -54,7 +54,7 @@ pub record Adds {H : Type 0} (m : HostModel H) (body : Body) (filling next : Fil
 abbrev pub AddsEach : {H : Type 0} → HostModel H → List Body → Filling → Filling → H → H → Type 0
 AddsEach m [] filling last old new = (last ≡ filling) × (new ≡ old)
 AddsEach {H} m (body ∷ bodies) filling last old new =
-    (next : Filling) × (middle : H) × Adds m body filling next old middle × AddsEach m bodies next last middle new
+    (next : Filling) × (middle : H) × AddsBody m body filling next old middle × AddsEach m bodies next last middle new
 
 -- An unfinished file becomes the snapshot of these bodies, or stays unfinished.
 abbrev pub IsWritten : List Body → ℕ → List ℕ → List ℕ → Type 0

@@ -11,3 +11,4 @@ pub mod ParamsReading
 pub mod ParamsFaults
 pub mod Lines
 pub mod LineEnds
+pub mod RefusalLines

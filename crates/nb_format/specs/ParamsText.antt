@@ -26,7 +26,7 @@ pub record Parameter : Type 0 where
   pub least : ℕ
   pub greatest : ℕ
 
--- the six that are numbers. The number of each is its place, from 0 on.
+-- the six that are numbers. The number of each is its index, from 0 on.
 abbrev pub parameters : List Parameter
 parameters =
     record { name = codes "grav"; least = 0; greatest = gm_limit - 1 }

@@ -1,8 +1,9 @@
 -- What a snapshot reader has read.
-use Rattle.std.specs.Prelude.{◌≡◌, ℕ, ◌+◌, ◌<◌, ◌≤◌, if◌then◌else◌, nat_lt, Option, Some, None, Result, IfSome, IfOk, IfErr, OnOk, List, [], ◌∷◌, ◌++◌, length, take}
+use Rattle.std.specs.Prelude.{◌≡◌, ℕ, ⊤, ◌+◌, ◌<◌, ◌≤◌, if◌then◌else◌, nat_lt, Option, Some, None, Result, IfSome, IfOk, IfErr, OnOk, List, [], ◌∷◌, ◌++◌, length, take}
 use Rattle.std.specs.List.{flat_map}
 use Rattle.nb_model.specs.declared.body.Body.{Body}
 use Rattle.nb_model.specs.Limits.{most_bodies}
+use Rattle.nb_host.specs.Meaning.{HostModel, IsLeft}
 use Rattle.nb_format.specs.declared.snap_error.SnapError.{SnapError}
 use Rattle.nb_format.specs.declared.snap_error.SnapError.TheVariants as snap
 use Rattle.nb_format.specs.declared.snap_reader.SnapReader.{SnapReader}
@@ -68,6 +69,11 @@ pub record HasRead (reader : SnapReader) (bytes : List ℕ) (bodies : List Body)
 -- The reader's file reads as when it was opened, or has become shorter since.
 abbrev pub IsFrontOf : List ℕ → List ℕ → Type 0
 IsFrontOf bytes now = (n : ℕ) × (now ≡ take n bytes)
+
+-- The reader's file is as its reader needs it, and stays so through calls that spare it (`law_reading_kept`): these are the
+-- bytes that it held when it was opened, and nothing is asked of what a crash may leave.
+abbrev pub IsOpenNow : {H : Type 0} → HostModel H → SnapReader → List ℕ → H → Type 0
+IsOpenNow m reader bytes host = IsLeft m (file_of reader) (IsFrontOf bytes) (λ reads image. ⊤) host
 
 -- What a reader that isn't at its end refuses of a file that holds these bytes: the next record, or that the file ends
 -- before that record's end.

@@ -1,5 +1,5 @@
 -- The first refusal of bytes that are no snapshot: of the header's fields in their order, and then of the records in
--- theirs. A field is a number at a place of the bytes, its lowest byte first.
+-- theirs. A field is a number at an offset in the bytes, its lowest byte first.
 use Rattle.std.specs.Prelude.{◌≡◌, ℕ, zero, suc, ◌^◌, ◌<◌, ℤ, Bool, true, not, ◌&&◌, if◌then◌else◌, ◌==◌, nat_lt, ⊤, Option, Some, None, List, length, take, drop, slice_index, codes, All, unsigned_abs}
 use Rattle.std.specs.Int.{w32, w64, from_le_bytes, cast_signed}
 use Rattle.std.specs.Option.{option_or}
@@ -12,11 +12,11 @@ use Rattle.nb_format.specs.declared.snap_error.SnapError.{SnapError}
 use Rattle.nb_format.specs.declared.snap_error.SnapError.TheVariants as snap
 use Rattle.nb_format.specs.Snapshot.{header_length, record_length, snapshot_length, gate}
 
--- the number of the four bytes from a place on
+-- the number of the four bytes from an offset on
 unfoldable pub u32_at : ℕ → List ℕ → ℕ
 u32_at at bytes = from_le_bytes w32 (take 4 (drop at bytes))
 
--- the number of the eight bytes from a place on
+-- the number of the eight bytes from an offset on
 unfoldable pub u64_at : ℕ → List ℕ → ℕ
 u64_at at bytes = from_le_bytes w64 (take 8 (drop at bytes))
 

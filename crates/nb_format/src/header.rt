@@ -20,7 +20,7 @@ const NAME: &[u8; 7] = b"NBSNAP1";
 /// What stands at the end of a header.
 const ZEROS: [u8; 8] = [0; 8];
 
-// The places of the fields, in bytes.
+// The offsets of the fields, in bytes.
 const GATE_AT: usize = 0;
 
 const NAME_AT: usize = 1;

@@ -47,7 +47,7 @@ pub use snap_error::SnapError;
 pub use snap_reader::SnapReader;
 pub use snap_writer::{Closed, Filling, Fresh};
 pub use text::{LONGEST_TEXT, Text};
-pub use writer_laws::{law_being_written, law_filling_kept, law_written};
+pub use writer_laws::{law_being_written, law_filling_kept, law_reading_kept, law_written};
 
 #[cfg(test)]
 mod params_tests;

@@ -83,13 +83,13 @@ fn add_line(number: u64, mut values: Values, line: Line) -> Result<Values, Param
         Line::Skipped => Ok(values),
         Line::Malformed => Err(ParamsError::Line(number)),
         Line::Setting(which, value) => {
-            let place = usize::from(which);
-            if values.numbers[place].is_some() {
+            let index = usize::from(which);
+            if values.numbers[index].is_some() {
                 return Err(ParamsError::Twice(number));
             }
             match value_in_range(which, value) {
                 Some(value) => {
-                    values.numbers[place] = Some(value);
+                    values.numbers[index] = Some(value);
                     Ok(values)
                 }
                 None => Err(ParamsError::Range(number)),

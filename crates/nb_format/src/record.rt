@@ -13,7 +13,7 @@ use nb_model::{At, Body, SPEED_LIMIT, V3};
 /// The length of a record, in bytes.
 pub(crate) const RECORD_LENGTH: usize = 64;
 
-// The places of the fields, in bytes.
+// The offsets of the fields, in bytes.
 const ID_AT: usize = 0;
 
 const MASS_AT: usize = 8;

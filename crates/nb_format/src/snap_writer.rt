@@ -18,10 +18,10 @@ use crate::record;
 use nb_host::{Host, HostError, LAST_FILE};
 use nb_model::Body;
 
-/// The place of the gate, in bytes.
-const GATE_PLACE: u64 = 0;
+/// The offset of the gate, in bytes.
+const GATE_OFFSET: u64 = 0;
 
-/// The place behind the gate, in bytes.
+/// The offset behind the gate, in bytes.
 const BEHIND_GATE: u64 = 1;
 
 /// The gate byte of a snapshot that isn't finished.
@@ -196,6 +196,6 @@ fn set_gate<H: Host>(host: &mut H, file: u64, gate: u8) -> Result<(), HostError>
     ensures ran { RanSyncing H.meaning 1 HostError.Fault (FileBecomes file (IsTorn 0 1))
         host.old host.new result }
 {
-    host.write_at(file, GATE_PLACE, &[gate])?;
+    host.write_at(file, GATE_OFFSET, &[gate])?;
     host.sync()
 }

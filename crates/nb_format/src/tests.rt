@@ -145,7 +145,7 @@ fn writes_bytes(rt: HostRuntime) -> Result<(), Fail> {
     Ok(())
 }
 
-/// Changes of `TWO`, each a byte's place and its value, and why it is no snapshot then.
+/// Changes of `TWO`, each a byte's offset and its value, and why it is no snapshot then.
 const BAD: [(&[(usize, u8)], SnapError); 35] = [
     // The gate is shut, the name is another, the count is too great, a reserved byte isn't 0.
     (&[(0, 0)], SnapError::Unfinished),

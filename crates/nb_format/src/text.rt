@@ -15,8 +15,8 @@ const TEN: u128 = 10;
 /// the list of its bytes.
 #[derive(Debug, Drop)]
 pub struct Text {
-    /// The bytes, and behind them what is left of the place.
-    place: [u8; LONGEST_TEXT],
+    /// The bytes, and behind them what is left of the room.
+    room: [u8; LONGEST_TEXT],
     /// How many bytes the text has.
     end: usize,
 }
@@ -27,7 +27,7 @@ impl Model for Text {
 
     ghost Value = { List ℕ };
 
-    ghost view = { λ text. take text.end text.place };
+    ghost view = { λ text. take text.end text.room };
 
     ghost invariant = { λ text. text.end ≤ LONGEST_TEXT };
 }
@@ -38,7 +38,7 @@ impl Text {
         ensures value { result.now ≡ self.now }
         ensures short { length result.now ≤ 128 }
     {
-        &self.place[..self.end]
+        &self.room[..self.end]
     }
 
     /// The text of one piece.
@@ -48,7 +48,7 @@ impl Text {
         ensures length { length result ≡ length piece.now }
     {
         let empty = Text {
-            place: [0; LONGEST_TEXT],
+            room: [0; LONGEST_TEXT],
             end: 0,
         };
         empty.then(piece)
@@ -60,10 +60,10 @@ impl Text {
         ensures value { result ≡ self ++ piece.now }
         ensures length { length result ≡ length self + length piece.now }
     {
-        let Text { mut place, end } = self;
-        put(&mut place, end, piece);
+        let Text { mut room, end } = self;
+        put(&mut room, end, piece);
         Text {
-            place,
+            room,
             end: end + piece.len(),
         }
     }

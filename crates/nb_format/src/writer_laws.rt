@@ -1,12 +1,15 @@
-//! Laws of a snapshot that is being written, over every host: how the calls of its writer go together. Each
-//! is a function that does nothing: its contract is the law.
+//! Laws of a snapshot that is being written or read, over every host: how the calls of its writer go
+//! together, and what stays of its file between two calls. Each is a function that does nothing: its contract
+//! is the law.
 
 ghost use Rattle.std.specs.Prelude.{◌⊎◌, ℕ, List, [], ◌++◌, Contains, IsTrue};
-ghost use Rattle.nb_host.specs.Crashes.{AgreesOutside, EverySince, Stays};
-ghost use Rattle.nb_host.specs.Image.{FileBecomes};
+ghost use Rattle.nb_host.specs.Crashes.{AgreesOutside, EverySince};
+ghost use Rattle.nb_host.specs.Image.{FileBecomes, Spares};
 ghost use Rattle.nb_host.specs.Meaning.{IsDurableFile, Leads, Over};
 ghost use Rattle.nb_model.specs.declared.body.Body.{Body};
 ghost use Rattle.nb_format.specs.declared.snap_writer.Filling.{Filling};
+ghost use Rattle.nb_format.specs.declared.snap_reader.SnapReader.{SnapReader};
+ghost use Rattle.nb_format.specs.Reader.{file_of, IsOpenNow};
 ghost use Rattle.nb_format.specs.Snapshot.{IsSnapshot, IsUnfinished};
 ghost use Rattle.nb_format.specs.Writer.{Plan, plan_of, IsEmptyFilling, IsBegun, StaysShut, StaysUnfinished, Closes};
 ghost use Rattle.nb_format.specs.Images.{IsUnfinishedNow, IsShutNow, IsFilledNow, IsBeingWritten, ChangesWith, AddsEach, IsWritten};
@@ -54,21 +57,28 @@ pub fn law_written<H: Host>()
         → IsUnfinishedNow H.meaning file host }
 {}
 
-/// What the writer's next call needs of its file stays through calls on other files, and through a sync:
-/// what `begin` needs, what `add` and `close` need, and that the file is being written.
+/// What the writer's next call needs of its file, what `begin` does and what `add` and `close` do, stays
+/// through calls that spare the file: those on other files, a sync, and a say (`nb_host`'s `law_left`). That
+/// the file is being written stays through calls on the other files.
 pub fn law_filling_kept<H: Host>()
-    ensures unfinished { (others : List ℕ) (file : ℕ) (old new : H) → (Contains others file → ⊥)
-        → Leads H.meaning (AgreesOutside others) old new
+    ensures unfinished { (file : ℕ) (old new : H) → Leads H.meaning (Spares file) old new
         → IsUnfinishedNow H.meaning file old → IsUnfinishedNow H.meaning file new }
-    ensures others { (others : List ℕ) (filling : Filling) (bodies : List Body) (old new : H)
-        → (Contains others (plan_of filling).file → ⊥) → Leads H.meaning (AgreesOutside others) old new
-        → IsFilledNow H.meaning filling bodies old → IsFilledNow H.meaning filling bodies new }
-    ensures synced { (filling : Filling) (bodies : List Body) (old new : H)
-        → Leads H.meaning Stays old new
+    ensures filled { (filling : Filling) (bodies : List Body) (old new : H)
+        → Leads H.meaning (Spares (plan_of filling).file) old new
         → IsFilledNow H.meaning filling bodies old → IsFilledNow H.meaning filling bodies new }
     ensures written { (others : List ℕ) (plan : Plan) (filling : Filling) (bodies : List Body)
         (start old new : H) → (Contains others plan.file → ⊥)
         → Leads H.meaning (AgreesOutside others) old new
         → IsBeingWritten H.meaning others plan filling bodies start old
         → IsBeingWritten H.meaning others plan filling bodies start new }
+{}
+
+/// A reader's file is open to it from the `begin` of which it is, and stays so through calls that spare the
+/// file: those on other files, a sync, and a say (`nb_host`'s `law_left`).
+pub fn law_reading_kept<H: Host>()
+    ensures begun { (reader : SnapReader) (host : H)
+        → IsOpenNow H.meaning reader ((H.meaning.contents host).file (file_of reader)) host }
+    ensures kept { (reader : SnapReader) (bytes : List ℕ) (old new : H)
+        → Leads H.meaning (Spares (file_of reader)) old new
+        → IsOpenNow H.meaning reader bytes old → IsOpenNow H.meaning reader bytes new }
 {}

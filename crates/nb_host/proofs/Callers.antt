@@ -9,8 +9,8 @@ use Rattle.std.proofs.lemmas.List.Elements.{Contains-append_left, Contains-appen
 use Rattle.nb_host.specs.Crashes.{CrashModel, ImagesFollow, IsStretch, Stays, AgreesOutside, ChangesOnly, EverySince, CountsOnlyNow, CountsEarlier}
 use Rattle.nb_host.specs.Counts.{next_count}
 use Rattle.nb_host.specs.Faults.{Rose}
-use Rattle.nb_host.specs.Image.{Image, overwritten, readable, IsTorn, IsPartlyCut, FileBecomes, Says}
-use Rattle.nb_host.specs.Meaning.{HostModel, Leads, Over, Stopped, Counts, Ran, RanSyncing, Spoke, Tally, IsDurable, IsDurableFile, untold_host}
+use Rattle.nb_host.specs.Image.{Image, overwritten, readable, IsTorn, IsPartlyCut, FileBecomes, Says, SaysPart, Spares}
+use Rattle.nb_host.specs.Meaning.{HostModel, Leads, Over, Stopped, Counts, Ran, RanSyncing, Spoke, Tally, IsDurable, IsDurableFile, IsLeft, StaysLeft, untold_host}
 use Rattle.nb_host.specs.Page.{HasPage, page_of, page_start, same_page}
 use Rattle.nb_host.specs.declared.host.Channel.{Channel}
 use Rattle.nb_host.specs.declared.host.HostError.{HostError}
@@ -375,22 +375,41 @@ changes_every {model = model} {files = files} {old = old} only run =
     every_since (λ image. (start : Image) × model.may_leave old start × AgreesOutside files start image) only run
     (λ image _ is. (image, is, agrees_itself files image)) (λ start image _ is agrees. (start, is, agrees))
 
--- What is durable in one file reads as before after calls that change only others, since it is in every image.
+-- What is durable in one file reads as before after calls that spare it, since it does in every image.
+pub durable_file_reads : {H : Type 0} (m : HostModel H) {number : ℕ} {old new : H} → IsDurableFile m number old
+    → ImagesFollow m.crashes old new (Spares number) → IsTrue m.crashes.is_honest
+    → (m.contents new).file number ≡ (m.contents old).file number
+durable_file_reads m {new = new} durable run honest =
+    let start = (run.follows honest).now (m.contents new) (m.leaves_contents new honest) in
+    start.2 ∙ durable start.0 honest start.1
+
+-- It stays durable.
+pub durable_file_spared : {H : Type 0} (m : HostModel H) {number : ℕ} {old new : H} → IsDurableFile m number old
+    → ImagesFollow m.crashes old new (Spares number) → IsDurableFile m number new
+durable_file_spared m durable run = λ image honest is.
+    let start = (run.follows honest).now image is in
+    start.2 ∙ durable start.0 honest start.1 ∙ sym (durable_file_reads m durable run honest)
+
+-- Both for calls that change only other files.
+changes_spare : {H : Type 0} {model : CrashModel H} {files : List ℕ} {number : ℕ} {old new : H}
+    → (Contains files number → ⊥) → ChangesOnly model files old new → ImagesFollow model old new (Spares number)
+changes_spare {number = number} spared run = weaken run (λ start image agrees. agrees.others number spared)
+
 pub durable_file_holds : {H : Type 0} (m : HostModel H) {files : List ℕ} {number : ℕ} {old new : H}
     → (Contains files number → ⊥) → IsDurableFile m number old → ChangesOnly m.crashes files old new
     → IsTrue m.crashes.is_honest → (m.contents new).file number ≡ (m.contents old).file number
-durable_file_holds m {number = number} {new = new} spared durable run honest =
-    let start = (run.follows honest).now (m.contents new) (m.leaves_contents new honest) in
-    start.2.others number spared ∙ durable start.0 honest start.1
+durable_file_holds m spared durable run = durable_file_reads m durable (changes_spare spared run)
 
--- It stays durable.
 pub durable_file_stays : {H : Type 0} (m : HostModel H) {files : List ℕ} {number : ℕ} {old new : H}
     → (Contains files number → ⊥) → IsDurableFile m number old → ChangesOnly m.crashes files old new
     → IsDurableFile m number new
-durable_file_stays m {number = number} spared durable run = λ image honest is.
-    let start = (run.follows honest).now image is in
-    start.2.others number spared ∙ durable start.0 honest start.1
-    ∙ sym (durable_file_holds m spared durable run honest)
+durable_file_stays m spared durable run = durable_file_spared m durable (changes_spare spared run)
+
+-- and for a say
+pub said_spares : {H : Type 0} {model : CrashModel H} {number : ℕ} {channel : Channel} {bytes : List ℕ} {old new : H}
+    → ImagesFollow model old new (SaysPart channel bytes) → ImagesFollow model old new (Spares number)
+said_spares {number = number} run =
+    weaken run (λ start image says. ap (λ (files : ℕ → List ℕ). files number) says.2.files)
 
 -- What is durable as a whole is so in each file.
 pub durable_each : {H : Type 0} (m : HostModel H) (number : ℕ) {host : H} → IsDurable m host
@@ -443,6 +462,36 @@ pub leads_before : {H : Type 0} {m : HostModel H} {old middle new : H} {S : Imag
 leads_before {S = S} itself first second =
     leads_then first second (λ start image same. subst (λ (i : Image). S start i) (sym same) (itself start))
     (λ start between image same step. subst (λ (i : Image). S i image) same step)
+
+-- Calls that spare a file: those on other files, a sync, and a say.
+
+pub others_spare : {H : Type 0} {m : HostModel H} {file : ℕ} {files : List ℕ} {old new : H} → (Contains files file → ⊥)
+    → Leads m (AgreesOutside files) old new → Leads m (Spares file) old new
+others_spare {file = file} apart leads = leads_more leads (λ start image agrees. agrees.others file apart)
+
+pub sync_spares : {H : Type 0} {m : HostModel H} {file : ℕ} {old new : H} → Leads m Stays old new
+    → Leads m (Spares file) old new
+sync_spares {file = file} leads = leads_more leads (λ start image same. ap (λ (i : Image). i.file file) same)
+
+pub say_spares : {H : Type 0} {m : HostModel H} {file : ℕ} {channel : Channel} {bytes : List ℕ} {old new : H}
+    → Leads m (SaysPart channel bytes) old new → Leads m (Spares file) old new
+say_spares {file = file} leads =
+    leads_more leads (λ start image says. ap (λ (files : ℕ → List ℕ). files file) says.2.files)
+
+-- A file that is as its last call left it stays so through them.
+pub left_stays : {H : Type 0} (m : HostModel H) {file : ℕ} {this : List ℕ → Type 0} {that : List ℕ → List ℕ → Type 0}
+    {old new : H} → Leads m (Spares file) old new → IsLeft m file this that old → IsLeft m file this that new
+left_stays m {file = file} {this = this} {that = that} {old = old} leads left = record {
+  reads = λ tells. subst this (sym (leads.contents tells)) (left.reads tells);
+  images = λ image honest is.
+      let start = (leads.images.follows honest).now image is in
+      subst (λ (w : List ℕ). that w (image.file file)) (sym (leads.contents (m.tells_if_honest honest)))
+      (subst (λ (w : List ℕ). that ((m.contents old).file file) w) (sym start.2) (left.images start.0 honest start.1));
+}
+
+pub stays_left : {H : Type 0} (m : HostModel H) {file : ℕ} {old new : H} → Leads m (Spares file) old new
+    → StaysLeft m file old new
+stays_left m leads = left_stays m leads (record { reads = λ _. refl; images = λ image _ is. (image, is, refl) })
 
 -- Calls after a sync: each image is one before it, or follows from what read at the sync.
 pub leads_synced : {H : Type 0} {m : HostModel H} {old middle new : H} {S T U : Image → Image → Type 0}
@@ -599,6 +648,20 @@ syncing_refused never less ran = record {
   refused = ran.refused;
   synced = λ _ ok. absurd (never ok);
   at_most = λ tells. omega (arith, ran.at_most tells, less);
+}
+
+-- how often calls sync, as far as it is known: of a host that tells
+pub syncing_told : {H T E : Type 0} {m : HostModel H} {one two : ℕ} {fault : E} {by : Image → Image → Type 0}
+    {old new : H} {result : Result T E} → (IsTrue m.tells → one ≡ two) → RanSyncing m one fault by old new result
+    → RanSyncing m two fault by old new result
+syncing_told same ran = record {
+  leads = ran.leads;
+  count = ran.count;
+  rose = ran.rose;
+  spared = ran.spared;
+  refused = ran.refused;
+  synced = λ tells ok. omega (arith, same tells, ran.synced tells ok);
+  at_most = λ tells. omega (arith, same tells, ran.at_most tells);
 }
 
 -- the step that calls lead by, weakened

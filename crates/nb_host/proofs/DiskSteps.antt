@@ -13,7 +13,7 @@ use Rattle.nb_host.specs.Image.{Image, IsTorn, IsPartlyCut, FileBecomes, Says, S
 use Rattle.nb_host.specs.declared.outcome.Outcome.{Outcome}
 use Rattle.nb_host.specs.declared.outcome.Outcome.TheVariants.{Kept, Lost, Filled}
 use Rattle.nb_host.specs.Crashes.{ImagesFollow, Stays}
-use Rattle.nb_host.specs.Disk.{DiskFile, Disk, Event, Wrote, Cut, Synced, Said, Crashed, is_unsynced, left_file, filled_byte, crash_model_by, IsFileImage, IsCrashImage, contents_on, synced_file, written_file, cut_file, with_change, with_said, after, disk_after, in_progress, IsImageSince}
+use Rattle.nb_host.specs.Disk.{DiskFile, Disk, Event, Wrote, Cut, Synced, Said, Crashed, is_unsynced, left_file, filled_byte, crash_model_by, IsFileImage, IsCrashImage, contents_on, synced_file, written_file, cut_file, with_change, with_said, after_event, disk_after, in_progress, IsImageSince}
 use Rattle.nb_host.specs.DiskLaws.{IsSoundFile, length-take_less, disk_is_sound, reads_is_image, contents_is_image}
 use Rattle.nb_host.proofs.Callers.{torn_by_nothing, torn_by_first, overwritten_is_torn}
 use Rattle.nb_host.proofs.Calls.{says_nothing}
@@ -22,58 +22,58 @@ use Rattle.nb_host.proofs.Calls.{says_nothing}
 
 abbrev merged : (ℕ → Bool) → List ℕ → List ℕ → ℕ → List ℕ
 merged test base bytes len =
-    map (λ place. if test place then slice_index base place else slice_index bytes place) (range_with_len 0 len)
+    map (λ offset. if test offset then slice_index base offset else slice_index bytes offset) (range_with_len 0 len)
 
 length-merged : (test : ℕ → Bool) (base bytes : List ℕ) (len : ℕ) → length (merged test base bytes len) ≡ len
 length-merged test base bytes len =
-    length-map-range_with_len (λ place. if test place then slice_index base place else slice_index bytes place) 0 len
+    length-map-range_with_len (λ offset. if test offset then slice_index base offset else slice_index bytes offset) 0 len
 
-merged_base : (test : ℕ → Bool) (base bytes : List ℕ) (len place : ℕ) → place < len → test place ≡ true
-    → slice_index (merged test base bytes len) place ≡ slice_index base place
-merged_base test base bytes len place within holds =
+merged_base : (test : ℕ → Bool) (base bytes : List ℕ) (len offset : ℕ) → offset < len → test offset ≡ true
+    → slice_index (merged test base bytes len) offset ≡ slice_index base offset
+merged_base test base bytes len offset within holds =
     get_or-map-range_with_len
-    (λ place. if test place then slice_index base place else slice_index bytes place) 0 len place place 0 within
+    (λ offset. if test offset then slice_index base offset else slice_index bytes offset) 0 len offset offset 0 within
     (omega arith)
     ∙ rw holds refl
 
-merged_bytes : (test : ℕ → Bool) (base bytes : List ℕ) (len place : ℕ) → place < len → test place ≡ false
-    → slice_index (merged test base bytes len) place ≡ slice_index bytes place
-merged_bytes test base bytes len place within fails =
+merged_bytes : (test : ℕ → Bool) (base bytes : List ℕ) (len offset : ℕ) → offset < len → test offset ≡ false
+    → slice_index (merged test base bytes len) offset ≡ slice_index bytes offset
+merged_bytes test base bytes len offset within fails =
     get_or-map-range_with_len
-    (λ place. if test place then slice_index base place else slice_index bytes place) 0 len place place 0 within
+    (λ offset. if test offset then slice_index base offset else slice_index bytes offset) 0 len offset offset 0 within
     (omega arith)
     ∙ rw fails refl
 
 abbrev in_range : ℕ → ℕ → ℕ → Bool
-in_range from end place = nat_le from place && nat_lt place end
+in_range from end offset = nat_le from offset && nat_lt offset end
 
-in_range_cases : (from end place : ℕ) → ((in_range from end place ≡ true) × (from ≤ place) × (place < end))
-    ⊎ ((in_range from end place ≡ false) × ((place < from) ⊎ (end ≤ place)))
-in_range_cases from end place =
-    elim (leb_tells from place) [
+in_range_cases : (from end offset : ℕ) → ((in_range from end offset ≡ true) × (from ≤ offset) × (offset < end))
+    ⊎ ((in_range from end offset ≡ false) × ((offset < from) ⊎ (end ≤ offset)))
+in_range_cases from end offset =
+    elim (leb_tells from offset) [
       | inl low ↦
-          elim (cases_lt place end) [
+          elim (cases_lt offset end) [
             | inl below ↦
-                let high = lt-ltb place end below in
+                let high = lt-ltb offset end below in
                 inl (rw (low.0, high) refl, low.1, below)
             | inr past ↦
-                let high = le-ltb place end past in
+                let high = le-ltb offset end past in
                 inr (rw (low.0, high) refl, inr past)
           ]
       | inr below ↦ inr (rw below.0 refl, inl below.1)
     ]
 
-outside_range : (from end place : ℕ) → (place < from) ⊎ (end ≤ place) → in_range from end place ≡ false
-outside_range from end place (inl below) = let low = lt-leb from place below in rw low refl
-outside_range from end place (inr past) =
-    let high = le-ltb place end past in
-    elim (nat_le from place) as (λ (b : Bool). (b && nat_lt place end) ≡ false) [ true ↦ high | false ↦ refl ]
+outside_range : (from end offset : ℕ) → (offset < from) ⊎ (end ≤ offset) → in_range from end offset ≡ false
+outside_range from end offset (inl below) = let low = lt-leb from offset below in rw low refl
+outside_range from end offset (inr past) =
+    let high = le-ltb offset end past in
+    elim (nat_le from offset) as (λ (b : Bool). (b && nat_lt offset end) ≡ false) [ true ↦ high | false ↦ refl ]
 
-outside_both : (span : Span) (spans : List Span) (place : ℕ) → (place < span.from) ⊎ (span.end ≤ place)
-    → is_unsynced spans place ≡ false → is_unsynced (span ∷ spans) place ≡ false
-outside_both span spans place outside none =
-    or_from (in_range span.from span.end place) (is_unsynced spans place)
-    (outside_range span.from span.end place outside) none
+outside_both : (span : Span) (spans : List Span) (offset : ℕ) → (offset < span.from) ⊎ (span.end ≤ offset)
+    → is_unsynced spans offset ≡ false → is_unsynced (span ∷ spans) offset ≡ false
+outside_both span spans offset outside none =
+    or_from (in_range span.from span.end offset) (is_unsynced spans offset)
+    (outside_range span.from span.end offset outside) none
 
 -- One file.
 
@@ -92,20 +92,20 @@ before_write at b rest done file bytes sound is =
       record {
         no_shorter = omega (arith, counts, is.no_shorter, sound.least_base, sound.base_greatest);
         no_longer = omega (arith, counts);
-        synced = λ place within in_base none.
-            let inside : place < len = omega (arith, counts) in
-            elim (in_range_cases at end place) [
-              | inl holds ↦ merged_base test file.base bytes len place inside holds.0
+        synced = λ offset within in_base none.
+            let inside : offset < len = omega (arith, counts) in
+            elim (in_range_cases at end offset) [
+              | inl holds ↦ merged_base test file.base bytes len offset inside holds.0
               | inr fails ↦
-                  elim (cases_lt place (length file.reads)) [
+                  elim (cases_lt offset (length file.reads)) [
                     | inl reads ↦
-                        let free : is_unsynced (span ∷ file.unsynced) place ≡ false =
-                        outside_both span file.unsynced place
+                        let free : is_unsynced (span ∷ file.unsynced) offset ≡ false =
+                        outside_both span file.unsynced offset
                         (elim fails.1 [ inl below ↦ inl (omega arith) | inr past ↦ inr past ]) none
                         in
-                        merged_bytes test file.base bytes len place inside fails.0
-                        ∙ is.synced place (omega arith) in_base free
-                    | inr past ↦ let cut = sound.past_end place past in_base in (cc)
+                        merged_bytes test file.base bytes len offset inside fails.0
+                        ∙ is.synced offset (omega arith) in_base free
+                    | inr past ↦ let cut = sound.past_end offset past in_base in (cc)
                   ]
             ];
       },
@@ -113,12 +113,12 @@ before_write at b rest done file bytes sound is =
         nothing = λ none. absurd (omega arith);
         no_shorter = omega (arith, counts);
         no_longer = omega (arith, counts, is.no_longer);
-        below = λ place within below.
-            let inside : place < len = omega (arith, counts) in
-            sym (merged_bytes test file.base bytes len place inside (outside_range at end place (inl below)));
-        above = λ place within past.
-            let inside : place < len = omega (arith, counts) in
-            sym (merged_bytes test file.base bytes len place inside (outside_range at end place (inr past)));
+        below = λ offset within below.
+            let inside : offset < len = omega (arith, counts) in
+            sym (merged_bytes test file.base bytes len offset inside (outside_range at end offset (inl below)));
+        above = λ offset within past.
+            let inside : offset < len = omega (arith, counts) in
+            sym (merged_bytes test file.base bytes len offset inside (outside_range at end offset (inr past)));
       },
     )
 
@@ -136,24 +136,24 @@ before_cut len file bytes sound is =
       record {
         no_shorter = omega (arith, counts);
         no_longer = omega (arith, counts, is.no_longer, sound.least_base, sound.base_greatest);
-        synced = λ place within in_base none.
-            let inside : place < most = omega (arith, counts) in
-            elim (leb_tells len place) [
-              | inl cut ↦ merged_base test file.base bytes most place inside cut.0
+        synced = λ offset within in_base none.
+            let inside : offset < most = omega (arith, counts) in
+            elim (leb_tells len offset) [
+              | inl cut ↦ merged_base test file.base bytes most offset inside cut.0
               | inr left ↦
-                  let free : is_unsynced (span ∷ file.unsynced) place ≡ false =
-                  outside_both span file.unsynced place (inl left.1) none
+                  let free : is_unsynced (span ∷ file.unsynced) offset ≡ false =
+                  outside_both span file.unsynced offset (inl left.1) none
                   in
-                  merged_bytes test file.base bytes most place inside left.0
-                  ∙ is.synced place (omega (arith, is.no_shorter, left.1)) in_base free
+                  merged_bytes test file.base bytes most offset inside left.0
+                  ∙ is.synced offset (omega (arith, is.no_shorter, left.1)) in_base free
             ];
       },
       record {
         no_shorter = omega (arith, counts, is.no_shorter);
         no_longer = omega (arith, counts);
-        below = λ place within below.
-            let inside : place < most = omega arith in
-            sym (merged_bytes test file.base bytes most place inside (lt-leb len place below));
+        below = λ offset within below.
+            let inside : offset < most = omega arith in
+            sym (merged_bytes test file.base bytes most offset inside (lt-leb len offset below));
       },
     )
 
@@ -217,20 +217,20 @@ before_change number change P disk image is follows =
 synced_image : (reads bytes : List ℕ) → IsFileImage (synced_file reads) bytes → bytes ≡ reads
 synced_image reads bytes is =
     ext_get_or 0 bytes reads (omega (arith, is.no_shorter, is.no_longer))
-    (λ place within. is.synced place within (omega (arith, is.no_shorter, is.no_longer)) refl)
+    (λ offset within. is.synced offset within (omega (arith, is.no_shorter, is.no_longer)) refl)
 
 -- what a crash leaves of a file is one of its images
 left_is_image : (outcome : Outcome) (file : DiskFile) → IsSoundFile file → IsFileImage file (left_file outcome file)
 left_is_image Kept file sound = reads_is_image file sound
 left_is_image Lost file sound =
-    record { no_shorter = sound.least_base; no_longer = sound.base_greatest; synced = λ place _ _ _. refl }
+    record { no_shorter = sound.least_base; no_longer = sound.base_greatest; synced = λ offset _ _ _. refl }
 left_is_image (Filled filler) file sound =
     let counts = length-map-range_with_len (filled_byte filler file) 0 file.greatest in
     record {
       no_shorter = omega (arith, counts, sound.least_base, sound.base_greatest);
       no_longer = omega (arith, counts);
-      synced = λ place within in_base none.
-          get_or-map-range_with_len (filled_byte filler file) 0 file.greatest place place 0 (omega (arith, counts))
+      synced = λ offset within in_base none.
+          get_or-map-range_with_len (filled_byte filler file) 0 file.greatest offset offset 0 (omega (arith, counts))
           (omega arith)
           ∙ rw none refl;
     }
@@ -261,7 +261,7 @@ torn_written at (b ∷ rest) done file =
 -- Each call, by what it did.
 
 write_step : (number at : ℕ) (bytes : List ℕ) (done : ℕ) (events : List Event) (image : Image)
-    → IsCrashImage (after (Wrote number at bytes done) (disk_after events)) image
+    → IsCrashImage (after_event (Wrote number at bytes done) (disk_after events)) image
     → (start : Image) × IsCrashImage (disk_after events) start
     × FileBecomes number (IsTorn at (length bytes)) start image
 write_step number at [] done events image is =
@@ -273,7 +273,7 @@ write_step number at (b ∷ rest) done events image is =
     before_write at b rest done ((disk_after events).file number) bytes (disk_is_sound events number) file)
 
 cut_step : (number len : ℕ) (events : List Event) (image : Image)
-    → IsCrashImage (after (Cut number len) (disk_after events)) image
+    → IsCrashImage (after_event (Cut number len) (disk_after events)) image
     → (start : Image) × IsCrashImage (disk_after events) start × FileBecomes number (IsPartlyCut len) start image
 cut_step number len events image is =
     before_change number (cut_file len) (IsPartlyCut len) (disk_after events) image is
@@ -302,7 +302,7 @@ says_with Err bytes start image said files = record {
 }
 
 say_step : (channel : Channel) (bytes : List ℕ) (done : ℕ) (events : List Event) (image : Image)
-    → IsCrashImage (after (Said channel bytes done) (disk_after events)) image
+    → IsCrashImage (after_event (Said channel bytes done) (disk_after events)) image
     → (start : Image) × IsCrashImage (disk_after events) start × SaysPart channel bytes start image
 say_step channel bytes done events image is =
     let start : Image = record { file = image.file; said = (disk_after events).said } in
@@ -313,7 +313,7 @@ say_step channel bytes done events image is =
       (first.0, first.1, subst (λ (part : List ℕ). Says channel part start image) first.2 says),
     )
 
-sync_step : (events : List Event) (image : Image) → IsCrashImage (after Synced (disk_after events)) image
+sync_step : (events : List Event) (image : Image) → IsCrashImage (after_event Synced (disk_after events)) image
     → (start : Image) × IsCrashImage (disk_after events) start × Stays start image
 sync_step events image is =
     let disk = disk_after events in (
@@ -323,7 +323,7 @@ sync_step events image is =
     )
 
 crash_step : (outcome : Outcome) (events : List Event) (image : Image)
-    → IsCrashImage (after (Crashed outcome) (disk_after events)) image
+    → IsCrashImage (after_event (Crashed outcome) (disk_after events)) image
     → (start : Image) × IsCrashImage (disk_after events) start × Stays start image
 crash_step outcome events image is =
     let disk = disk_after events in (
@@ -337,13 +337,13 @@ crash_step outcome events image is =
 -- an event whose images, however much of it got done, follow by the step from those of before
 abbrev pub IsStep : Event → List Event → (Image → Image → Type 0) → Type 0
 IsStep event earlier step = (done : ℕ) (image : Image)
-    → IsCrashImage (after (in_progress done event) (disk_after earlier)) image
+    → IsCrashImage (after_event (in_progress done event) (disk_after earlier)) image
     → (start : Image) × IsCrashImage (disk_after earlier) start × step start image
 
 -- a call that was recorded
 pub follows_event : {H : Type 0} (events : H → List Event) (old new : H) (event : Event)
     (step : Image → Image → Type 0) → events new ≡ event ∷ events old
-    → ((image : Image) → IsCrashImage (after event (disk_after (events old))) image
+    → ((image : Image) → IsCrashImage (after_event event (disk_after (events old))) image
     → (start : Image) × IsCrashImage (disk_after (events old)) start × step start image)
     → IsStep event (events old) step
     → ImagesFollow (crash_model_by events) old new step

@@ -2,4 +2,4 @@ pub mod Callers
 mod Calls
 mod DiskSteps
 mod Grown
-mod Places
+mod StoredFiles

@@ -23,7 +23,7 @@ MayHaveLeft model old new image =
 -- What a stretch of calls does to the images: each of now, and each of the stretch, follows by the step from one at the
 -- start. The last two fields are of the images since a moment before the stretch: by `since` no others come than those of
 -- the stretch, and by `keeps` none goes.
-pub record Follows {H : Type 0} (model : CrashModel H) (old new : H) (step : Image → Image → Type 0) : Type 0 where
+pub record EachFollows {H : Type 0} (model : CrashModel H) (old new : H) (step : Image → Image → Type 0) : Type 0 where
   pub later : model.moment old ≤ model.moment new
   pub now : (image : Image) → model.may_leave new image
       → (start : Image) × model.may_leave old start × step start image
@@ -36,7 +36,7 @@ pub record Follows {H : Type 0} (model : CrashModel H) (old new : H) (step : Ima
 -- A stretch of calls leads from the old host to the new one: each image of an honest one, at every moment of the stretch
 -- and within its calls, follows by the step from an image at its start.
 pub record ImagesFollow {H : Type 0} (model : CrashModel H) (old new : H) (step : Image → Image → Type 0) : Type 0 where
-  pub follows : IsTrue model.is_honest → Follows model old new step
+  pub follows : IsTrue model.is_honest → EachFollows model old new step
 
 -- A stretch of calls leads from the old host to the new one, whatever it does.
 abbrev pub IsStretch : {H : Type 0} → CrashModel H → H → H → Type 0

@@ -26,16 +26,16 @@ pub record Disk : Type 0 where
   pub file : ℕ → DiskFile
   pub said : Channel → List ℕ
 
--- whether the byte at this place is in one of the ranges
+-- whether the byte at this offset is in one of the ranges
 abbrev pub is_unsynced : List Span → ℕ → Bool
-is_unsynced spans place = list_any (λ span. nat_le span.from place && nat_lt place span.end) spans
+is_unsynced spans offset = list_any (λ span. nat_le span.from offset && nat_lt offset span.end) spans
 
 -- A crash may leave these bytes of the file. They may be any numbers, also above 255, which only widens what it may leave.
 pub record IsFileImage (file : DiskFile) (bytes : List ℕ) : Type 0 where
   pub no_shorter : file.least ≤ length bytes
   pub no_longer : length bytes ≤ file.greatest
-  pub synced : (place : ℕ) → place < length bytes → place < length file.base
-      → is_unsynced file.unsynced place ≡ false → slice_index bytes place ≡ slice_index file.base place
+  pub synced : (offset : ℕ) → offset < length bytes → offset < length file.base
+      → is_unsynced file.unsynced offset ≡ false → slice_index bytes offset ≡ slice_index file.base offset
 
 -- A crash between two calls may leave this image.
 pub record IsCrashImage (disk : Disk) (image : Image) : Type 0 where
@@ -80,8 +80,8 @@ cut_file len file = record file {
 
 -- a byte of a file that a crash fills: the filler where it is unsynced, and else that of the sync
 abbrev pub filled_byte : ℕ → DiskFile → ℕ → ℕ
-filled_byte filler file place =
-    if is_unsynced file.unsynced place then filler else slice_index file.base place
+filled_byte filler file offset =
+    if is_unsynced file.unsynced offset then filler else slice_index file.base offset
 
 -- What the crash leaves of a file: what reads, the bytes of the last sync, or the greatest length with a filler in each
 -- unsynced byte.
@@ -102,21 +102,21 @@ with_said Err bytes said Out = said Out
 with_said Err bytes said Err = said Err ++ bytes
 
 -- the disk after a call
-abbrev pub after : Event → Disk → Disk
-after (Wrote number at bytes done) disk =
+abbrev pub after_event : Event → Disk → Disk
+after_event (Wrote number at bytes done) disk =
     record disk { file = with_change number (written_file at bytes done) disk.file }
-after (Cut number len) disk = record disk { file = with_change number (cut_file len) disk.file }
-after Synced disk = record disk { file = λ number. synced_file (disk.file number).reads }
-after (Said channel bytes done) disk = record disk { said = with_said channel (take done bytes) disk.said }
-after (Placed number bytes) disk =
+after_event (Cut number len) disk = record disk { file = with_change number (cut_file len) disk.file }
+after_event Synced disk = record disk { file = λ number. synced_file (disk.file number).reads }
+after_event (Said channel bytes done) disk = record disk { said = with_said channel (take done bytes) disk.said }
+after_event (Placed number bytes) disk =
     record disk { file = with_change number (λ _. synced_file bytes) disk.file }
-after (Crashed outcome) disk =
+after_event (Crashed outcome) disk =
     record disk { file = λ number. synced_file (left_file outcome (disk.file number)) }
 
 -- the disk after all calls, the newest of them first
 abbrev pub disk_after : List Event → Disk
 disk_after [] = record { file = λ _. synced_file []; said = λ _. [] }
-disk_after (event ∷ earlier) = after event (disk_after earlier)
+disk_after (event ∷ earlier) = after_event event (disk_after earlier)
 
 -- how many of the calls were syncs
 abbrev pub syncs_in : List Event → ℕ
@@ -139,7 +139,7 @@ in_progress done (Crashed outcome) = Crashed outcome
 
 -- A crash within this call may leave this image.
 abbrev pub IsImageWithin : Event → Disk → Image → Type 0
-IsImageWithin event disk image = (done : ℕ) × IsCrashImage (after (in_progress done event) disk) image
+IsImageWithin event disk image = (done : ℕ) × IsCrashImage (after_event (in_progress done event) disk) image
 
 -- A crash at a moment, or at a later one up to now, may have left this image. A moment is how many calls were recorded. One
 -- later than now would have the images of now: callers speak of moments up to now.

@@ -4,44 +4,44 @@ use Rattle.std.proofs.lemmas.Bool.{cases_lt, lt-ltb, le-leb, or_parts}
 use Rattle.std.proofs.lemmas.Grind.{common_steps}
 use Rattle.std.proofs.lemmas.List.{get_or-take}
 use Rattle.nb_host.specs.Image.{Image, overwritten}
-use Rattle.nb_host.specs.Disk.{DiskFile, Disk, Event, Wrote, Cut, Synced, Said, Placed, Crashed, is_unsynced, IsFileImage, IsCrashImage, contents_on, synced_file, written_file, cut_file, left_file, with_change, after, disk_after, IsImageSince}
+use Rattle.nb_host.specs.Disk.{DiskFile, Disk, Event, Wrote, Cut, Synced, Said, Placed, Crashed, is_unsynced, IsFileImage, IsCrashImage, contents_on, synced_file, written_file, cut_file, left_file, with_change, after_event, disk_after, IsImageSince}
 use Rattle.nb_host.specs.declared.span.Span.{Span}
 
 -- Ranges.
 
-pub unsynced_within : (span : Span) (spans : List Span) (place : ℕ) → span.from ≤ place → place < span.end
-    → is_unsynced (span ∷ spans) place ≡ true
-unsynced_within span spans place low high =
-    rw (le-leb span.from place low, lt-ltb place span.end high) refl
+pub unsynced_within : (span : Span) (spans : List Span) (offset : ℕ) → span.from ≤ offset → offset < span.end
+    → is_unsynced (span ∷ spans) offset ≡ true
+unsynced_within span spans offset low high =
+    rw (le-leb span.from offset low, lt-ltb offset span.end high) refl
 
-pub unsynced_before : (span : Span) (spans : List Span) (place : ℕ) → is_unsynced spans place ≡ true
-    → is_unsynced (span ∷ spans) place ≡ true
-unsynced_before span spans place before =
-    elim (nat_le span.from place && nat_lt place span.end) as (λ (b : Bool). (b || is_unsynced spans place) ≡ true)
+pub unsynced_before : (span : Span) (spans : List Span) (offset : ℕ) → is_unsynced spans offset ≡ true
+    → is_unsynced (span ∷ spans) offset ≡ true
+unsynced_before span spans offset before =
+    elim (nat_le span.from offset && nat_lt offset span.end) as (λ (b : Bool). (b || is_unsynced spans offset) ≡ true)
     [ true ↦ refl | false ↦ before ]
 
--- a place that is in no range is outside the first of them, and in none of the others
-pub outside_first : (span : Span) (spans : List Span) (place : ℕ) → is_unsynced (span ∷ spans) place ≡ false
-    → (place < span.from) ⊎ (span.end ≤ place)
-outside_first span spans place none =
-    let first = (or_parts (nat_le span.from place && nat_lt place span.end) (is_unsynced spans place) none).0 in
-    elim (cases_lt place span.from) [
+-- an offset that is in no range is outside the first of them, and in none of the others
+pub outside_first : (span : Span) (spans : List Span) (offset : ℕ) → is_unsynced (span ∷ spans) offset ≡ false
+    → (offset < span.from) ⊎ (span.end ≤ offset)
+outside_first span spans offset none =
+    let first = (or_parts (nat_le span.from offset && nat_lt offset span.end) (is_unsynced spans offset) none).0 in
+    elim (cases_lt offset span.from) [
       | inl below ↦ inl below
       | inr within ↦
-          elim (cases_lt place span.end) [
+          elim (cases_lt offset span.end) [
             | inl below ↦
-                let low = le-leb span.from place within in
-                let high = lt-ltb place span.end below in
-                let inside : (nat_le span.from place && nat_lt place span.end) ≡ true = rw (low, high) refl in
+                let low = le-leb span.from offset within in
+                let high = lt-ltb offset span.end below in
+                let inside : (nat_le span.from offset && nat_lt offset span.end) ≡ true = rw (low, high) refl in
                 (cc)
             | inr past ↦ inr past
           ]
     ]
 
-pub outside_others : (span : Span) (spans : List Span) (place : ℕ) → is_unsynced (span ∷ spans) place ≡ false
-    → is_unsynced spans place ≡ false
-outside_others span spans place none =
-    (or_parts (nat_le span.from place && nat_lt place span.end) (is_unsynced spans place) none).1
+pub outside_others : (span : Span) (spans : List Span) (offset : ℕ) → is_unsynced (span ∷ spans) offset ≡ false
+    → is_unsynced spans offset ≡ false
+outside_others span spans offset none =
+    (or_parts (nat_le span.from offset && nat_lt offset span.end) (is_unsynced spans offset) none).1
 
 -- One file.
 
@@ -52,10 +52,10 @@ pub record IsSoundFile (file : DiskFile) : Type 0 where
   pub reads_greatest : length file.reads ≤ file.greatest
   pub least_base : file.least ≤ length file.base
   pub base_greatest : length file.base ≤ file.greatest
-  pub past_end : (place : ℕ) → length file.reads ≤ place → place < length file.base
-      → is_unsynced file.unsynced place ≡ true
-  pub synced : (place : ℕ) → place < length file.reads → place < length file.base
-      → is_unsynced file.unsynced place ≡ false → slice_index file.reads place ≡ slice_index file.base place
+  pub past_end : (offset : ℕ) → length file.reads ≤ offset → offset < length file.base
+      → is_unsynced file.unsynced offset ≡ true
+  pub synced : (offset : ℕ) → offset < length file.reads → offset < length file.base
+      → is_unsynced file.unsynced offset ≡ false → slice_index file.reads offset ≡ slice_index file.base offset
 
 pub synced_is_sound : (bytes : List ℕ) → IsSoundFile (synced_file bytes)
 synced_is_sound bytes = record {
@@ -63,8 +63,8 @@ synced_is_sound bytes = record {
   reads_greatest = omega arith;
   least_base = omega arith;
   base_greatest = omega arith;
-  past_end = λ place past within. absurd (omega arith);
-  synced = λ place _ _ _. refl;
+  past_end = λ offset past within. absurd (omega arith);
+  synced = λ offset _ _ _. refl;
 }
 
 pub length-overwritten_more : (at : ℕ) (bytes file : List ℕ) → length file ≤ length (overwritten at bytes file)
@@ -76,15 +76,15 @@ pub length-overwritten_less : (at : ℕ) (bytes file : List ℕ)
 length-overwritten_less at [] file = omega arith
 length-overwritten_less at (b ∷ bytes) file = grind (arith, common_steps)
 
-pub overwritten-below : (at : ℕ) (bytes file : List ℕ) (place : ℕ) → place < length file → place < at
-    → slice_index (overwritten at bytes file) place ≡ slice_index file place
-overwritten-below at [] file place within below = refl
-overwritten-below at (b ∷ bytes) file place within below = grind (arith, common_steps)
+pub overwritten-below : (at : ℕ) (bytes file : List ℕ) (offset : ℕ) → offset < length file → offset < at
+    → slice_index (overwritten at bytes file) offset ≡ slice_index file offset
+overwritten-below at [] file offset within below = refl
+overwritten-below at (b ∷ bytes) file offset within below = grind (arith, common_steps)
 
-pub overwritten-above : (at : ℕ) (bytes file : List ℕ) (place : ℕ) → place < length file
-    → at + length bytes ≤ place → slice_index (overwritten at bytes file) place ≡ slice_index file place
-overwritten-above at [] file place within above = refl
-overwritten-above at (b ∷ bytes) file place within above = grind (arith, common_steps)
+pub overwritten-above : (at : ℕ) (bytes file : List ℕ) (offset : ℕ) → offset < length file
+    → at + length bytes ≤ offset → slice_index (overwritten at bytes file) offset ≡ slice_index file offset
+overwritten-above at [] file offset within above = refl
+overwritten-above at (b ∷ bytes) file offset within above = grind (arith, common_steps)
 
 pub length-take_less : (done : ℕ) (bytes : List ℕ) → length (take done bytes) ≤ length bytes
 length-take_less done bytes = grind (arith, common_steps)
@@ -104,21 +104,21 @@ written_is_sound at (b ∷ bytes) done file sound =
       reads_greatest = omega (arith, less, fewer, sound.reads_greatest);
       least_base = sound.least_base;
       base_greatest = omega (arith, sound.base_greatest);
-      past_end = λ place past within.
-          unsynced_before span file.unsynced place (sound.past_end place (omega (arith, more)) within);
-      synced = λ place within_reads within none.
-          let others = outside_others span file.unsynced place none in
-          elim (cases_lt place (length file.reads)) [
+      past_end = λ offset past within.
+          unsynced_before span file.unsynced offset (sound.past_end offset (omega (arith, more)) within);
+      synced = λ offset within_reads within none.
+          let others = outside_others span file.unsynced offset none in
+          elim (cases_lt offset (length file.reads)) [
             | inl inside ↦
-                elim (outside_first span file.unsynced place none) [
+                elim (outside_first span file.unsynced offset none) [
                   | inl below ↦
-                      overwritten-below at part file.reads place inside (omega arith)
-                      ∙ sound.synced place inside within others
+                      overwritten-below at part file.reads offset inside (omega arith)
+                      ∙ sound.synced offset inside within others
                   | inr above ↦
-                      overwritten-above at part file.reads place inside (omega (arith, fewer))
-                      ∙ sound.synced place inside within others
+                      overwritten-above at part file.reads offset inside (omega (arith, fewer))
+                      ∙ sound.synced offset inside within others
                 ]
-            | inr past ↦ let cut = sound.past_end place past within in (cc)
+            | inr past ↦ let cut = sound.past_end offset past within in (cc)
           ];
     }
 
@@ -131,14 +131,14 @@ cut_is_sound len file sound =
       reads_greatest = omega (arith, rest, sound.reads_greatest);
       least_base = omega (arith, sound.least_base);
       base_greatest = sound.base_greatest;
-      past_end = λ place past within.
-          elim (cases_lt place (length file.reads)) [
-            | inl inside ↦ unsynced_within span file.unsynced place (omega (arith, rest)) inside
-            | inr beyond ↦ unsynced_before span file.unsynced place (sound.past_end place beyond within)
+      past_end = λ offset past within.
+          elim (cases_lt offset (length file.reads)) [
+            | inl inside ↦ unsynced_within span file.unsynced offset (omega (arith, rest)) inside
+            | inr beyond ↦ unsynced_before span file.unsynced offset (sound.past_end offset beyond within)
           ];
-      synced = λ place within_reads within none.
-          get_or-take len file.reads place 0 (omega (arith, rest))
-          ∙ sound.synced place (omega (arith, rest)) within (outside_others span file.unsynced place none);
+      synced = λ offset within_reads within none.
+          get_or-take len file.reads offset 0 (omega (arith, rest))
+          ∙ sound.synced offset (omega (arith, rest)) within (outside_others span file.unsynced offset none);
     }
 
 -- a file where one of them changes, as it was or as it is
@@ -151,7 +151,7 @@ with_change_keeps P number change file other stays changes =
 -- All files.
 
 pub after_is_sound : (event : Event) (disk : Disk) → ((number : ℕ) → IsSoundFile (disk.file number))
-    → (number : ℕ) → IsSoundFile ((after event disk).file number)
+    → (number : ℕ) → IsSoundFile ((after_event event disk).file number)
 after_is_sound (Wrote file at bytes done) disk sound number =
     with_change_keeps IsSoundFile file (written_file at bytes done) disk.file number (sound number)
     (written_is_sound at bytes done (disk.file number) (sound number))

@@ -7,7 +7,7 @@ pub record Image : Type 0 where
   pub file : ℕ → List ℕ
   pub said : Channel → List ℕ
 
--- A file after a write at this place. A gap before the place reads as zeros, and a write of no bytes does nothing.
+-- A file after a write at this offset. A gap before the offset reads as zeros, and a write of no bytes does nothing.
 abbrev pub overwritten : ℕ → List ℕ → List ℕ → List ℕ
 overwritten at [] file = file
 overwritten at (b ∷ bytes) file =
@@ -19,7 +19,7 @@ IsOverwritten at bytes old new = new ≡ overwritten at bytes old
 abbrev pub IsCut : ℕ → List ℕ → List ℕ → Type 0
 IsCut len old new = new ≡ take len old
 
--- A file after a write of so many bytes at this place, perhaps in part. It isn't shorter than before, nor longer than the
+-- A file after a write of so many bytes at this offset, perhaps in part. It isn't shorter than before, nor longer than the
 -- longer of before and the written range's end. Outside the range, and the gap before it, the bytes are those of before.
 -- A write of no bytes does nothing.
 pub record IsTorn (at len : ℕ) (old new : List ℕ) : Type 0 where
@@ -52,6 +52,10 @@ pub record Says (channel : Channel) (bytes : List ℕ) (old new : Image) : Type 
 abbrev pub SaysPart : Channel → List ℕ → Image → Image → Type 0
 SaysPart channel bytes old new = (n : ℕ) × (n ≤ length bytes) × Says channel (take n bytes) old new
 
--- a file as a read sees it from this place on, into so much room
+-- a file as a read sees it from this offset on, into so much room
 abbrev pub readable : ℕ → ℕ → List ℕ → List ℕ
 readable at room file = take room (drop at file)
+
+-- One file stays as it is, whatever else changes: so do calls on other files, a sync and a say.
+abbrev pub Spares : ℕ → Image → Image → Type 0
+Spares file old new = new.file file ≡ old.file file

@@ -67,6 +67,19 @@ abbrev pub IsDurableFile : {H : Type 0} → HostModel H → ℕ → H → Type 0
 IsDurableFile m number host = (image : Image) → IsTrue m.crashes.is_honest → m.crashes.may_leave host image
     → image.file number ≡ (m.contents host).file number
 
+-- One file is as its last call left it, which is what the next one needs: what reads of it is `this`, of a host that tells,
+-- and what a crash may leave of it is, beside what reads, `that`. It stays so through calls that spare the file (`law_left`).
+pub record IsLeft {H : Type 0} (m : HostModel H) (file : ℕ) (this : List ℕ → Type 0) (that : List ℕ → List ℕ → Type 0) (host : H) : Type 0 where
+  pub reads : IsTrue m.tells → this ((m.contents host).file file)
+  pub images : (image : Image) → IsTrue m.crashes.is_honest → m.crashes.may_leave host image
+      → that ((m.contents host).file file) (image.file file)
+
+-- One file stays as it was left, whatever that was: what reads of it read before, and what a crash may leave of it, it
+-- might have left before.
+abbrev pub StaysLeft : {H : Type 0} → HostModel H → ℕ → H → H → Type 0
+StaysLeft m file old new = IsLeft m file (λ reads. reads ≡ (m.contents old).file file)
+    (λ reads image. (start : Image) × m.crashes.may_leave old start × (image ≡ start.file file)) new
+
 -- Calls came to an end at a fault: one of them answered Fault, the last one. Nothing was tried again, and nothing went on.
 pub record Stopped {H : Type 0} (m : HostModel H) (old new : H) : Type 0 where
   pub count : m.faults new ≡ next_count (m.faults old)

@@ -67,9 +67,9 @@ impl MemoryDisk {
         answer
     }
 
-    /// Writes the first `done` of the bytes into a file at a place, in bytes.
+    /// Writes the first `done` of the bytes into a file at an offset, in bytes.
     pub fn write(&mut self, number: u64, at: u64, bytes: &[u8], done: usize) -> Result<(), NoMemory>
-        requires place { at + length bytes.now < PLACE_LIMIT }
+        requires offset { at + length bytes.now < PLACE_LIMIT }
         requires part { done ≤ length bytes.now }
         ensures ok { OnOk result (events_in self.new ≡ Wrote number at bytes.now done ∷ events_in self.old) }
         ensures err { OnErr result (events_in self.new ≡ events_in self.old) }

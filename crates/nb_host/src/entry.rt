@@ -6,7 +6,7 @@ use crate::{Channel, Outcome};
 /// got done.
 #[derive(Drop)]
 pub enum Entry {
-    /// Bytes were written into a file at a place, in bytes.
+    /// Bytes were written into a file at an offset, in bytes.
     Write(u64, u64, Vec<u8>, usize),
     /// A file was cut to a length, in bytes, where it was longer.
     CutOff(u64, u64),

@@ -53,10 +53,10 @@ impl Files {
         Ok(())
     }
 
-    /// Writes the first `done` of the bytes into a file at a place, in bytes, behind zeros where that lies
+    /// Writes the first `done` of the bytes into a file at an offset, in bytes, behind zeros where that lies
     /// past its end. The range of all the bytes counts as written.
     pub fn write(&mut self, number: u64, at: u64, bytes: &[u8], done: usize) -> Result<(), NoMemory>
-        requires place { at + length bytes.now < PLACE_LIMIT }
+        requires offset { at + length bytes.now < PLACE_LIMIT }
         requires part { done ≤ length bytes.now }
         ensures ok { OnOk result ((other : ℕ) → file_in self.new other
             ≡ with_change number (written_file at bytes.now done) (file_in self.old) other) }

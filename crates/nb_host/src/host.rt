@@ -8,7 +8,7 @@ use std::alloc::{AllocError, AllocFailed};
 /// The greatest number of a file.
 pub const LAST_FILE: u64 = 16 + (1 << 40);
 
-/// What is read or written at a place ends below this, in bytes.
+/// What is read or written at an offset ends below this, in bytes.
 pub const PLACE_LIMIT: u64 = 1 << 62;
 
 /// Why a call of the host was refused.
@@ -73,11 +73,11 @@ pub trait Host {
             → n ≡ length ((meaning.contents self.old).file file)) }
         ensures ran { Ran meaning HostError.Fault Stays self.old self.new result };
 
-    /// Fills `into` from the place `at` on, in bytes, and answers how many bytes it gave: fewer than asked
+    /// Fills `into` from the offset `at` on, in bytes, and answers how many bytes it gave: fewer than asked
     /// for only where the file ends. What `into` holds behind them, or after a refusal, is left open.
     fn read_at(&mut self, file: u64, at: u64, into: &mut [u8]) -> Result<usize, HostError>
         requires number { file ≤ LAST_FILE }
-        requires place { at + length into.old < PLACE_LIMIT }
+        requires offset { at + length into.old < PLACE_LIMIT }
         ensures count { IfOk result (λ n. n ≤ length into.old) }
         ensures whole { IfOk result (λ n. IsTrue meaning.tells
             → n ≡ length (readable at (length into.old) ((meaning.contents self.old).file file))) }
@@ -85,12 +85,12 @@ pub trait Host {
             → take n into.new ≡ readable at (length into.old) ((meaning.contents self.old).file file)) }
         ensures ran { Ran meaning HostError.Fault Stays self.old self.new result };
 
-    /// Puts the bytes at the place `at`. A gap before the place reads as zeros, and a write of no bytes
+    /// Puts the bytes at the offset `at`. A gap before the offset reads as zeros, and a write of no bytes
     /// does nothing. After Fault the bytes of the range, and those of the gap, may be anything. The length
     /// is then from the old one up to the greater of it and the range's end.
     fn write_at(&mut self, file: u64, at: u64, bytes: &[u8]) -> Result<(), HostError>
         requires number { file ≤ LAST_FILE }
-        requires place { at + length bytes.now < PLACE_LIMIT }
+        requires offset { at + length bytes.now < PLACE_LIMIT }
         ensures written { OnOk result
             (Over meaning (FileBecomes file (IsOverwritten at bytes.now)) self.old self.new) }
         ensures ran { Ran meaning HostError.Fault (FileBecomes file (IsTorn at (length bytes.now)))

@@ -2,9 +2,10 @@
 //! calls. Each is a function that does nothing: its contract is the law.
 
 ghost use Rattle.std.specs.Prelude.{◌≡◌, ◌⊎◌, ◌↔◌, ℕ, ◌+◌, ◌^◌, List, ◌++◌, Contains, IsTrue};
-ghost use Rattle.nb_host.specs.Crashes.{IsStretch, ChangesOnly, EverySince, AgreesOutside};
-ghost use Rattle.nb_host.specs.Image.{Image};
-ghost use Rattle.nb_host.specs.Meaning.{IsDurable, IsDurableFile};
+ghost use Rattle.nb_host.specs.Crashes.{IsStretch, ImagesFollow, ChangesOnly, EverySince, AgreesOutside, Stays};
+ghost use Rattle.nb_host.specs.Image.{Image, SaysPart, Spares};
+ghost use Rattle.nb_host.specs.Meaning.{IsDurable, IsDurableFile, StaysLeft, Leads};
+ghost use Rattle.nb_host.specs.declared.host.Channel.{Channel};
 
 use crate::host::{Host, LAST_FILE, PLACE_LIMIT};
 use crate::page_name::PAGE_SIZE;
@@ -40,7 +41,8 @@ pub fn law_images_of_both<H: Host>()
         ⊎ H.meaning.crashes.left_since new (H.meaning.crashes.moment middle) image)) }
 {}
 
-/// What is durable in one file reads as before, and stays durable, through calls that change only others.
+/// What is durable in one file reads as before, and stays durable, through calls that change only others,
+/// and through a say.
 pub fn law_durable_file<H: Host>()
     ensures each { (file : ℕ) (host : H) → IsDurable H.meaning host
         → IsDurableFile H.meaning file host }
@@ -51,6 +53,24 @@ pub fn law_durable_file<H: Host>()
         → IsDurableFile H.meaning file old → ChangesOnly H.meaning.crashes files old new
         → IsTrue H.meaning.crashes.is_honest
         → (H.meaning.contents new).file file ≡ (H.meaning.contents old).file file }
+    ensures said { (channel : Channel) (bytes : List ℕ) (file : ℕ) (old new : H)
+        → IsDurableFile H.meaning file old
+        → ImagesFollow H.meaning.crashes old new (SaysPart channel bytes)
+        → IsDurableFile H.meaning file new × (IsTrue H.meaning.crashes.is_honest
+        → (H.meaning.contents new).file file ≡ (H.meaning.contents old).file file) }
+{}
+
+/// A file that is as its last call left it (`IsLeft`, whatever that says) stays so through calls that spare
+/// it: those on other files, a sync, and a say.
+pub fn law_left<H: Host>()
+    ensures stays { (file : ℕ) (old new : H) → Leads H.meaning (Spares file) old new
+        → StaysLeft H.meaning file old new }
+    ensures others { (files : List ℕ) (file : ℕ) (old new : H) → (Contains files file → ⊥)
+        → Leads H.meaning (AgreesOutside files) old new → Leads H.meaning (Spares file) old new }
+    ensures synced { (file : ℕ) (old new : H) → Leads H.meaning Stays old new
+        → Leads H.meaning (Spares file) old new }
+    ensures said { (channel : Channel) (bytes : List ℕ) (file : ℕ) (old new : H)
+        → Leads H.meaning (SaysPart channel bytes) old new → Leads H.meaning (Spares file) old new }
 {}
 
 /// What an honest host's files hold is one of the images that a crash may leave.
@@ -63,6 +83,6 @@ pub fn law_contents_are_left<H: Host>()
 /// of a page.
 pub fn law_limits()
     ensures last_file { LAST_FILE ≡ 16 + 2 ^ 40 }
-    ensures place { PLACE_LIMIT ≡ 2 ^ 62 }
+    ensures offset { PLACE_LIMIT ≡ 2 ^ 62 }
     ensures page { PAGE_SIZE ≡ 4096 }
 {}

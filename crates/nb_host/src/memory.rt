@@ -193,7 +193,7 @@ fn part_of(len: usize, fate: Fate) -> usize
     }
 }
 
-// Reads the file from this place on into the room, and answers how many bytes it gave.
+// Reads the file from this offset on into the room, and answers how many bytes it gave.
 fn read(file: &[u8], at: usize, into: &mut [u8]) -> usize
     ensures count { result ≡ length (readable at (length into.old) file.now) }
     ensures bytes { into.new ≡ readable at (length into.old) file.now ++ drop result into.old }

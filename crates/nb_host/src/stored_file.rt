@@ -75,10 +75,10 @@ impl StoredFile {
         self.changes = None;
     }
 
-    /// Writes the first `done` of the bytes at a place, in bytes, behind zeros where that lies past the end.
-    /// The range of all the bytes counts as written.
+    /// Writes the first `done` of the bytes at an offset, in bytes, behind zeros where that lies past the
+    /// end. The range of all the bytes counts as written.
     pub fn write(&mut self, at: u64, bytes: &[u8], done: usize) -> Result<(), NoMemory>
-        requires place { at + length bytes.now < PLACE_LIMIT }
+        requires offset { at + length bytes.now < PLACE_LIMIT }
         requires part { done ≤ length bytes.now }
         ensures ok { OnOk result (disk_file_of self.new
             ≡ written_file at bytes.now done (disk_file_of self.old)) }
@@ -175,7 +175,7 @@ impl Changes {
         done: usize,
     ) -> Result<(), NoMemory>
         requires some { 0 < length bytes.now }
-        requires place { at + length bytes.now < PLACE_LIMIT }
+        requires offset { at + length bytes.now < PLACE_LIMIT }
         requires part { done ≤ length bytes.now }
         ensures ok { OnOk result (changed_file file.new.items (Some self.new)
             ≡ written_file at bytes.now done (changed_file file.old.items (Some self.old))) }
@@ -214,34 +214,34 @@ impl Changes {
             ≡ left_file (Filled filler) (changed_file bytes (Some self.now))) }
     {
         let mut filled = Vec::new(alloc);
-        for place in 0..self.greatest {
-            filled.push(self.filled_byte(filler, place))?;
+        for offset in 0..self.greatest {
+            filled.push(self.filled_byte(filler, offset))?;
         }
         Ok(filled)
     }
 
     // A byte of that file.
-    #[tactic(auto, using(crate::proofs::Places::unsynced_reversed))]
-    fn filled_byte(&self, filler: u8, place: u64) -> u8
-        ensures { (bytes : List ℕ) → result ≡ filled_byte filler (changed_file bytes (Some self.now)) place }
+    #[tactic(auto, using(crate::proofs::StoredFiles::unsynced_reversed))]
+    fn filled_byte(&self, filler: u8, offset: u64) -> u8
+        ensures { (bytes : List ℕ) → result ≡ filled_byte filler (changed_file bytes (Some self.now)) offset }
     {
-        if has_place(&self.unsynced, place) {
+        if has_offset(&self.unsynced, offset) {
             return filler;
         }
-        match self.base.get(place as usize) {
+        match self.base.get(offset as usize) {
             Some(byte) => *byte,
             None => 0,
         }
     }
 }
 
-// Whether the place is in one of the ranges.
-fn has_place(spans: &[Span], place: u64) -> bool
-    ensures { result ≡ is_unsynced spans.now place }
+// Whether the offset is in one of the ranges.
+fn has_offset(spans: &[Span], offset: u64) -> bool
+    ensures { result ≡ is_unsynced spans.now offset }
 {
     spans
         .iter()
-        .any(|span| span.from <= place && place < span.end)
+        .any(|span| span.from <= offset && offset < span.end)
 }
 
 // Writes the bytes into the file.
@@ -259,7 +259,7 @@ fn write(file: &mut Vec<u8>, at: usize, bytes: &[u8]) -> Result<(), NoMemory>
 // Writes some bytes into the file. Only its growth can want memory, and comes first.
 fn overwrite(file: &mut Vec<u8>, at: usize, bytes: &[u8]) -> Result<(), NoMemory>
     requires some { 0 < length bytes.now }
-    requires place { at + length bytes.now < PLACE_LIMIT }
+    requires offset { at + length bytes.now < PLACE_LIMIT }
     ensures ok { OnOk result (file.new.items ≡ overwritten at bytes.now file.old.items) }
     ensures err { OnErr result (file.new.items ≡ file.old.items) }
 {
@@ -268,7 +268,7 @@ fn overwrite(file: &mut Vec<u8>, at: usize, bytes: &[u8]) -> Result<(), NoMemory
     Ok(())
 }
 
-// Puts the bytes at the place in the file, which reaches to their end.
+// Puts the bytes at the offset in the file, which reaches to their end.
 fn replace(file: &mut [u8], at: usize, bytes: &[u8])
     requires { at + length bytes.now ≤ length file.old }
     ensures { file.new ≡ take at file.old ++ bytes.now ++ drop (at + length bytes.now) file.old }

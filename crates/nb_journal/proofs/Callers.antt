@@ -6,7 +6,7 @@ use Rattle.nb_journal.specs.declared.entry.Entry.{Entry}
 use Rattle.nb_journal.specs.Counters.{Counters, Answers, counters_after, counters_of}
 use Rattle.nb_journal.specs.Finding.{IsFound}
 use Rattle.nb_journal.specs.Form.{Log, IsJournal, IsCleanJournal, with_entry}
-use Rattle.nb_journal.specs.Images.{IsReady}
+use Rattle.nb_journal.specs.Images.{IsCleanNow}
 use Rattle.nb_journal.proofs.Found.{counters-with_entry}
 use Rattle.nb_journal.proofs.Unique.{one_journal}
 -- what a file is
@@ -16,8 +16,8 @@ pub use Rattle.nb_journal.proofs.Unique.{one_journal, one_damage, not_both, fres
 pub use Rattle.nb_journal.proofs.Gates.{lawful_more, progress-with_entry}
 pub use Rattle.nb_journal.proofs.Texts.{length-with_entry}
 pub use Rattle.nb_journal.proofs.Found.{counters-with_entry}
--- what a call leaves of the file, through calls that spare it
-pub use Rattle.nb_journal.proofs.Starting.{left_stays, others_spare, sync_spares, say_spares, prepared_then}
+-- what `prepare` leaves of the file
+pub use Rattle.nb_journal.proofs.Starting.{prepared_then}
 -- how often what is cut off is synced
 pub use Rattle.nb_journal.proofs.Steps.{long_syncs, short_syncs}
 
@@ -34,6 +34,6 @@ found_answers log file journal found =
 
 -- what `start_gate` and `append` leave
 pub ready_then : {H : Type 0} (m : HostModel H) {log : Log} {host : H}
-    → (IsTrue m.tells → IsCleanJournal log ((m.contents host).file 2)) → IsDurable m host → IsReady m log host
+    → (IsTrue m.tells → IsCleanJournal log ((m.contents host).file 2)) → IsDurable m host → IsCleanNow m log host
 ready_then m journal durable =
-    record { reads = λ honest. journal (m.tells_if_honest honest); images = durable_each m 2 durable }
+    record { reads = journal; images = durable_each m 2 durable }

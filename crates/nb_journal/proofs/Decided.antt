@@ -10,7 +10,7 @@ use Rattle.nb_journal.specs.declared.entry.Entry.{Entry}
 use Rattle.nb_journal.specs.declared.entry.Entry.TheVariants.{Leg, Tick}
 use Rattle.nb_journal.specs.declared.form.Heading.{Heading}
 use Rattle.nb_journal.specs.Counters.{log_under}
-use Rattle.nb_journal.specs.Entries.{Progress, IsNext}
+use Rattle.nb_journal.specs.Entries.{Progress, IsNextEntry}
 use Rattle.nb_journal.specs.Form.{IsLawful}
 
 abbrev pub Decided : Type 0 → Type 0
@@ -127,7 +127,7 @@ lawful_heading heading =
     (both (at_most heading.count (2 ^ 24))
     (both (less heading.time (2 ^ 64)) (at_most heading.gone heading.count)))))
 
-pub next_one : (count : ℕ) (s : Progress) (entry : Entry) → Decided (IsNext count s entry)
+pub next_one : (count : ℕ) (s : Progress) (entry : Entry) → Decided (IsNextEntry count s entry)
 next_one count s (Leg target) =
     alike (λ parts. record { fits = parts.0; ended = parts.1.0; apart = parts.1.1.0; limit = parts.1.1.1 })
     (λ next. (next.fits, (next.ended, (next.apart, next.limit))))

@@ -9,12 +9,12 @@ use Rattle.nb_model.specs.declared.edge.Edge.TheVariants.{Open, Wrap}
 use Rattle.nb_journal.specs.declared.form.Heading.{Heading}
 use Rattle.nb_journal.specs.Counters.{counters_of, log_under, heading_of}
 use Rattle.nb_journal.specs.Form.{Log, IsLawful, header, text, edge_number}
-use Rattle.nb_journal.specs.Places.{BeginsWith}
+use Rattle.nb_journal.specs.Offsets.{BeginsWith}
 use Rattle.nb_journal.specs.Reading.{IsReadTo}
 use Rattle.nb_journal.proofs.Spelled.{same_u64}
 use Rattle.nb_journal.proofs.Texts.{length-header, length-text}
 
--- a number that was read at a place of the page
+-- a number that was read at an offset of the page
 pub record StandsAt (page : List ℕ) (at n : ℕ) : Type 0 where
   pub small : n < 2 ^ 64
   pub bytes : take 8 (drop at page) ≡ to_le_bytes w64 n

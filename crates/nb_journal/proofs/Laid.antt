@@ -8,7 +8,7 @@ use Rattle.nb_journal.specs.declared.entry.Entry.{Entry}
 use Rattle.nb_journal.specs.Form.{entry_bytes}
 use Rattle.nb_journal.specs.Images.{page_begun}
 use Rattle.nb_journal.specs.Laying.{Lays}
-use Rattle.nb_journal.specs.Places.{place_of, IsZeros}
+use Rattle.nb_journal.specs.Offsets.{offset_of, IsZeros}
 use Rattle.nb_journal.proofs.Texts.{length-entry}
 use Rattle.nb_journal.proofs.Gates.{torn_slot, torn_page}
 
@@ -24,18 +24,18 @@ pub written_whole : (at : ℕ) (bytes file : List ℕ) → 1 ≤ length bytes �
 written_whole at bytes file some =
     omega (arith, length-readable at (length bytes) (overwritten at bytes file), ap length (readable-overwritten at bytes file))
 
-pub slot_step : (n : ℕ) {at len : ℕ} {start image : Image} → at ≡ place_of n + 1 → len ≡ 31
+pub slot_step : (n : ℕ) {at len : ℕ} {start image : Image} → at ≡ offset_of n + 1 → len ≡ 31
     → FileBecomes 2 (IsTorn at len) start image → Lays n start image
 slot_step n {at = at} {len = len} at_is len_is step =
     becomes_more step (λ before after torn.
-    torn_slot n (subst (λ (l : ℕ). IsTorn (place_of n + 1) l before after) len_is
+    torn_slot n (subst (λ (l : ℕ). IsTorn (offset_of n + 1) l before after) len_is
     (subst (λ (a : ℕ). IsTorn a len before after) at_is torn)))
 
-pub page_step : (n : ℕ) {at len : ℕ} {start image : Image} → n % 128 ≡ 127 → at ≡ place_of (n + 1) → len ≡ 4096
+pub page_step : (n : ℕ) {at len : ℕ} {start image : Image} → n % 128 ≡ 127 → at ≡ offset_of (n + 1) → len ≡ 4096
     → FileBecomes 2 (IsTorn at len) start image → Lays n start image
 page_step n {at = at} {len = len} last at_is len_is step =
     becomes_more step (λ before after torn.
-    torn_page n last (subst (λ (l : ℕ). IsTorn (place_of (n + 1)) l before after) len_is
+    torn_page n last (subst (λ (l : ℕ). IsTorn (offset_of (n + 1)) l before after) len_is
     (subst (λ (a : ℕ). IsTorn a len before after) at_is torn)))
 
 pub rest_is : (entry : Entry) (bytes : List ℕ) → bytes ≡ entry_bytes entry → take 31 (drop 1 bytes) ≡ drop 1 (entry_bytes entry)
@@ -47,12 +47,12 @@ pub length-rest : (entry : Entry) (rest : List ℕ) → rest ≡ drop 1 (entry_b
 length-rest entry rest is = omega (arith, ap length is, length-drop 1 (entry_bytes entry), length-entry entry)
 
 -- The entry stands in a file to which its bytes behind the gate were written.
-pub slot_written : (n : ℕ) (entry : Entry) (at : ℕ) (rest old new : List ℕ) → at ≡ place_of n + 1
+pub slot_written : (n : ℕ) (entry : Entry) (at : ℕ) (rest old new : List ℕ) → at ≡ offset_of n + 1
     → rest ≡ drop 1 (entry_bytes entry) → new ≡ overwritten at rest old → (i : ℕ) → 1 ≤ i → i < 32
-    → slice_index new (place_of n + i) ≡ slice_index (entry_bytes entry) i
+    → slice_index new (offset_of n + i) ≡ slice_index (entry_bytes entry) i
 slot_written n entry at rest old new at_is rest_are is i some within =
     let j = i - 1 in
-    let here : place_of n + i ≡ at + j = omega arith in
+    let here : offset_of n + i ≡ at + j = omega arith in
     let behind : 1 + j ≡ i = omega arith in
     ap (λ (p : ℕ). slice_index new p) here ∙ ap (λ (w : List ℕ). slice_index w (at + j)) is
     ∙ written_byte at rest old j (omega (arith, length-rest entry rest rest_are))
@@ -73,16 +73,16 @@ zeros_written at len zeros old new some long each is = record {
 }
 
 -- the entry still stands when the page behind it was written
-pub slot_stays : (n : ℕ) (entry : Entry) (at : ℕ) (bytes old new : List ℕ) → at ≡ place_of (n + 1) → new ≡ overwritten at bytes old
-    → place_of (n + 1) ≤ length old
-    → ((i : ℕ) → 1 ≤ i → i < 32 → slice_index old (place_of n + i) ≡ slice_index (entry_bytes entry) i) → (i : ℕ) → 1 ≤ i → i < 32
-    → slice_index new (place_of n + i) ≡ slice_index (entry_bytes entry) i
+pub slot_stays : (n : ℕ) (entry : Entry) (at : ℕ) (bytes old new : List ℕ) → at ≡ offset_of (n + 1) → new ≡ overwritten at bytes old
+    → offset_of (n + 1) ≤ length old
+    → ((i : ℕ) → 1 ≤ i → i < 32 → slice_index old (offset_of n + i) ≡ slice_index (entry_bytes entry) i) → (i : ℕ) → 1 ≤ i → i < 32
+    → slice_index new (offset_of n + i) ≡ slice_index (entry_bytes entry) i
 slot_stays n entry at bytes old new at_is is whole slot i some within =
-    ap (λ (w : List ℕ). slice_index w (place_of n + i)) is
-    ∙ (overwritten_is_torn at bytes old).below (place_of n + i) (omega arith) (omega arith) ∙ slot i some within
+    ap (λ (w : List ℕ). slice_index w (offset_of n + i)) is
+    ∙ (overwritten_is_torn at bytes old).below (offset_of n + i) (omega arith) (omega arith) ∙ slot i some within
 
 -- the file with the page behind entry n, where that is the last of its page, and where it isn't
-pub begun-last : (n : ℕ) (file : List ℕ) → n % 128 ≡ 127 → overwritten (place_of (n + 1)) (replicate 4096 0) file ≡ page_begun n file
+pub begun-last : (n : ℕ) (file : List ℕ) → n % 128 ≡ 127 → overwritten (offset_of (n + 1)) (replicate 4096 0) file ≡ page_begun n file
 unfolding page_begun
 begun-last n file last = rw last refl
 

@@ -1,15 +1,14 @@
 -- The calls of `prepare` and of `start_gate`, one after the other.
-use Rattle.std.proofs.Common.{◌≡◌, ◌≢◌, ℕ, zero, suc, ◌+◌, ◌*◌, ◌<◌, ◌≤◌, ◌⊎◌, inl, inr, IsTrue, Contains, List, [], ◌∷◌, ◌++◌, length, slice_index, replicate, refl, sym, ap, subst, ◌∙◌, arith, length-append}
+use Rattle.std.proofs.Common.{◌≡◌, ◌≢◌, ℕ, zero, suc, ◌+◌, ◌*◌, ◌<◌, ◌≤◌, ◌⊎◌, inl, inr, IsTrue, List, [], ◌∷◌, ◌++◌, length, slice_index, replicate, refl, sym, ap, subst, ◌∙◌, arith, length-append}
 use Rattle.std.proofs.lemmas.Bool.{cases_eq, cases_lt}
 use Rattle.std.proofs.lemmas.List.{append-nil, get_or_append_left, get_or-append-add, length-replicate, drop_all}
 use Rattle.nb_host.specs.Crashes.{ImagesFollow, AgreesOutside, Stays}
-use Rattle.nb_host.specs.declared.host.Channel.{Channel}
-use Rattle.nb_host.specs.Image.{Image, SaysPart, FileBecomes, IsTorn, IsPartlyCut, IsOverwritten, overwritten}
+use Rattle.nb_host.specs.Image.{Image, FileBecomes, IsTorn, IsPartlyCut, IsOverwritten, overwritten}
 use Rattle.nb_host.specs.Meaning.{HostModel, Leads, IsDurable, IsDurableFile}
-use Rattle.nb_host.proofs.Callers.{goes_on, becomes_agrees, agrees_itself, overwritten-at_end, overwritten-within, overwritten_is_torn, leads_more, stays_contents}
+use Rattle.nb_host.proofs.Callers.{goes_on, becomes_agrees, agrees_itself, overwritten-at_end, overwritten-within, overwritten_is_torn, stays_contents}
 use Rattle.nb_journal.specs.Form.{Log, header, text, IsLawful, IsFresh, IsCleanJournal}
-use Rattle.nb_journal.specs.Images.{prepared, SparesJournal, IsLeft, IsFreshNow, IsPrepared, StaysFresh, Starts}
-use Rattle.nb_journal.specs.Places.{place_of}
+use Rattle.nb_journal.specs.Images.{prepared, IsFreshNow, IsPrepared, StaysFresh, Starts}
+use Rattle.nb_journal.specs.Offsets.{offset_of}
 use Rattle.nb_journal.proofs.Texts.{length-header, length-text}
 use Rattle.nb_journal.proofs.Laid.{written_byte, written_whole, zeros_are}
 use Rattle.nb_journal.proofs.Steps.{knowing, after_sync, agrees_then}
@@ -79,8 +78,8 @@ gate_started log {old = old} {new = new} lawful none laid torn open' =
     let long : length old ≡ 8192 = ap length laid ∙ length-prepared log in
     let as_laid : (i : ℕ) → 1 ≤ i → i < 8192 → slice_index new i ≡ slice_index (prepared log) i =
     λ i some within. torn.above i (omega arith) some ∙ ap (λ (w : List ℕ). slice_index w i) laid in
-    let tail : (i : ℕ) → i < 128 → slice_index new (place_of i) ≢ 71 =
-    λ i within bad. absurd (omega (arith, bad, as_laid (place_of i) (omega arith) (omega arith), prepared_zero log (32 * i) (omega arith))) in
+    let tail : (i : ℕ) → i < 128 → slice_index new (offset_of i) ≢ 71 =
+    λ i within bad. absurd (omega (arith, bad, as_laid (offset_of i) (omega arith) (omega arith), prepared_zero log (32 * i) (omega arith))) in
     let short : length (text log) ≡ 4096 = omega (arith, length-text log) in
     let long_new : 8192 ≤ length new = omega (arith, torn.no_shorter) in
     record {
@@ -102,7 +101,7 @@ gate_started log {old = old} {new = new} lawful none laid torn open' =
               ];
         };
         pages = omega arith;
-        shut = subst (λ (k : ℕ). slice_index new (place_of k) ≢ 71) (sym none) (tail 0 (omega arith));
+        shut = subst (λ (k : ℕ). slice_index new (offset_of k) ≢ 71) (sym none) (tail 0 (omega arith));
       };
       clean = λ i low high. tail i (omega arith);
     }
@@ -127,10 +126,10 @@ written_start log {old = old} {new = new} lawful none laid is =
 -- the cut
 pub shorten_fresh : {H : Type 0} {m : HostModel H} {old new : H} → IsFreshNow m old
     → ImagesFollow m.crashes old new (FileBecomes 2 (IsPartlyCut 4096)) → ImagesFollow m.crashes old new StaysFresh
-shorten_fresh now run =
+shorten_fresh {m = m} now run =
     knowing run (λ start image honest is step. record {
       others = becomes_agrees step;
-      fresh = cut_fresh (subst IsFresh (sym (now.images start honest is)) (now.reads honest)) step.file;
+      fresh = cut_fresh (subst IsFresh (sym (now.images start honest is)) (now.reads (m.tells_if_honest honest))) step.file;
     })
 
 -- the header, over a file no longer than it
@@ -190,7 +189,7 @@ start_opens m log {old = old} {middle = middle} lawful none ready sync durable g
     after_sync m (start_syncs {before = m.contents old} ready sync.images) durable gate (λ start image step. step)
     (λ start image honest one two.
     let same = stays_contents sync in
-    let laid : (m.contents middle).file 2 ≡ prepared log = ap (λ (i : Image). i.file 2) same ∙ ready.reads honest in
+    let laid : (m.contents middle).file 2 ≡ prepared log = ap (λ (i : Image). i.file 2) same ∙ ready.reads (m.tells_if_honest honest) in
     let before : AgreesOutside (2 ∷ []) (m.contents old) image =
     subst (λ (i : Image). AgreesOutside (2 ∷ []) i image) same (becomes_agrees two) in
     record {
@@ -201,34 +200,11 @@ start_opens m log {old = old} {middle = middle} lawful none ready sync durable g
       ];
     })
 
--- What stays through calls that spare the file.
-
-pub left_stays : {H : Type 0} (m : HostModel H) {this : List ℕ → Type 0} {that : List ℕ → List ℕ → Type 0} {old new : H}
-    → Leads m SparesJournal old new → IsLeft m this that old → IsLeft m this that new
-left_stays m {this = this} {that = that} {old = old} leads left = record {
-  reads = λ honest. subst this (sym (leads.contents (m.tells_if_honest honest))) (left.reads honest);
-  images = λ image honest is.
-      let start = (leads.images.follows honest).now image is in
-      subst (λ (w : List ℕ). that w (image.file 2)) (sym (leads.contents (m.tells_if_honest honest)))
-      (subst (λ (w : List ℕ). that ((m.contents old).file 2) w) (sym start.2) (left.images start.0 honest start.1));
-}
-
-pub others_spare : {H : Type 0} {m : HostModel H} {files : List ℕ} {old new : H} → (Contains files 2 → ⊥)
-    → Leads m (AgreesOutside files) old new → Leads m SparesJournal old new
-others_spare apart leads = leads_more leads (λ start image agrees. agrees.others 2 apart)
-
-pub sync_spares : {H : Type 0} {m : HostModel H} {old new : H} → Leads m Stays old new → Leads m SparesJournal old new
-sync_spares leads = leads_more leads (λ start image same. ap (λ (i : Image). i.file 2) same)
-
-pub say_spares : {H : Type 0} {m : HostModel H} {channel : Channel} {bytes : List ℕ} {old new : H}
-    → Leads m (SaysPart channel bytes) old new → Leads m SparesJournal old new
-say_spares leads = leads_more leads (λ start image says. ap (λ (f : ℕ → List ℕ). f 2) says.2.files)
-
 -- what `prepare` leaves
 pub prepared_then : {H : Type 0} (m : HostModel H) (log : Log) {old new : H} → ImagesFollow m.crashes old new StaysFresh
     → (IsTrue m.tells → (m.contents new).file 2 ≡ prepared log) → IsPrepared m log new
 prepared_then m log run laid = record {
-  reads = λ honest. laid (m.tells_if_honest honest);
+  reads = laid;
   images = λ image honest is. ((run.follows honest).now image is).2.fresh;
 }
 

@@ -1,16 +1,16 @@
 -- How the calls that write the journal lead from image to image.
-use Rattle.std.proofs.Common.{◌≡◌, ℕ, ◌<◌, ◌≤◌, inl, inr, IsTrue, Result, List, [], ◌∷◌, length, sym, subst, ◌∙◌, arith}
+use Rattle.std.proofs.Common.{◌≡◌, ℕ, ◌<◌, ◌≤◌, inl, inr, IsTrue, List, [], ◌∷◌, length, sym, subst, ◌∙◌, arith}
 use Rattle.std.proofs.lemmas.Bool.Decides.{nat_tests}
 use Rattle.nb_host.specs.Crashes.{CrashModel, ImagesFollow, AgreesOutside}
 use Rattle.nb_host.specs.Image.{Image, FileBecomes, IsTorn}
-use Rattle.nb_host.specs.Meaning.{HostModel, RanSyncing, IsDurable}
+use Rattle.nb_host.specs.Meaning.{HostModel, IsDurable}
 use Rattle.nb_host.proofs.Callers.{goes_on, becomes_agrees, becomes_then}
 use Rattle.nb_journal.specs.declared.entry.Entry.{Entry}
-use Rattle.nb_journal.specs.Entries.{IsNext}
+use Rattle.nb_journal.specs.Entries.{IsNextEntry}
 use Rattle.nb_journal.specs.Form.{Log, IsCleanJournal, progress_of}
-use Rattle.nb_journal.specs.Images.{syncs_of_cut, IsReady, Appends}
+use Rattle.nb_journal.specs.Images.{syncs_of_cut, IsCleanNow, Appends}
 use Rattle.nb_journal.specs.Laying.{Lays, IsEntryWritten}
-use Rattle.nb_journal.specs.Places.{place_of}
+use Rattle.nb_journal.specs.Offsets.{offset_of}
 use Rattle.nb_journal.proofs.Gates.{kept_journal, torn_gate, keeps_both}
 
 -- A step that may use what is known of the images at the start.
@@ -33,19 +33,7 @@ knowing run more = record {
   };
 }
 
--- How often calls sync, as far as it is known: of a host that tells.
-pub syncing_told : {H T E : Type 0} {m : HostModel H} {one two : ℕ} {fault : E} {by : Image → Image → Type 0} {old new : H}
-    {result : Result T E} → (IsTrue m.tells → one ≡ two) → RanSyncing m one fault by old new result
-    → RanSyncing m two fault by old new result
-syncing_told same ran = record {
-  leads = ran.leads;
-  count = ran.count;
-  rose = ran.rose;
-  spared = ran.spared;
-  refused = ran.refused;
-  synced = λ tells ok. omega (arith, same tells, ran.synced tells ok);
-  at_most = λ tells. omega (arith, same tells, ran.at_most tells);
-}
+-- How often what is cut off is synced.
 
 pub long_syncs : (file : List ℕ) → 4096 < length file → 1 ≡ syncs_of_cut file
 long_syncs file long = grind (arith, nat_tests)
@@ -82,13 +70,13 @@ pub record KeepsJournal (log : Log) (start image : Image) : Type 0 where
   pub journal : IsCleanJournal log (image.file 2)
 
 -- in each image at the start the journal is what reads
-ready_image : {H : Type 0} {m : HostModel H} {log : Log} {host : H} → IsReady m log host → (image : Image)
+ready_image : {H : Type 0} {m : HostModel H} {log : Log} {host : H} → IsCleanNow m log host → (image : Image)
     → IsTrue m.crashes.is_honest → m.crashes.may_leave host image → IsCleanJournal log (image.file 2)
-ready_image {log = log} ready image honest is =
-    subst (λ (file : List ℕ). IsCleanJournal log file) (sym (ready.images image honest is)) (ready.reads honest)
+ready_image {m = m} {log = log} ready image honest is =
+    subst (λ (file : List ℕ). IsCleanJournal log file) (sym (ready.images image honest is)) (ready.reads (m.tells_if_honest honest))
 
 -- laying an entry leaves the journal in every image
-pub laying_keeps : {H : Type 0} {m : HostModel H} {log : Log} {old new : H} → IsReady m log old
+pub laying_keeps : {H : Type 0} {m : HostModel H} {log : Log} {old new : H} → IsCleanNow m log old
     → ImagesFollow m.crashes old new (Lays (length log.entries)) → ImagesFollow m.crashes old new (KeepsJournal log)
 laying_keeps {log = log} ready run =
     knowing run (λ start image honest is lays. record {
@@ -101,9 +89,9 @@ pub laid_appends : {log : Log} {entry : Entry} {before start image : Image} → 
 laid_appends keeps = record { others = keeps.others; either = inl keeps.journal }
 
 -- the gate of an entry that was laid
-pub gate_appends : (log : Log) (entry : Entry) {before laid start image : Image} → IsNext log.count (progress_of log) entry
+pub gate_appends : (log : Log) (entry : Entry) {before laid start image : Image} → IsNextEntry log.count (progress_of log) entry
     → AgreesOutside (2 ∷ []) before laid → IsEntryWritten (length log.entries) entry (laid.file 2) → KeepsJournal log start laid
-    → FileBecomes 2 (IsTorn (place_of (length log.entries)) 1) laid image → Appends log entry before start image
+    → FileBecomes 2 (IsTorn (offset_of (length log.entries)) 1) laid image → Appends log entry before start image
 gate_appends log entry next before_laid is_laid keeps gate = record {
   others = agrees_then keeps.others (becomes_agrees gate);
   either = elim (torn_gate log entry keeps.journal is_laid next gate.file) [

@@ -6,7 +6,7 @@ use Rattle.std.proofs.lemmas.List.Concat.{flat_map-append, flat_map-cons}
 use Rattle.nb_journal.specs.declared.entry.Entry.{Entry}
 use Rattle.nb_journal.specs.declared.entry.Entry.TheVariants.{Leg, Tick}
 use Rattle.nb_journal.specs.Form.{Log, header, entry_bytes, text, with_entry}
-use Rattle.nb_journal.specs.Places.{place_of}
+use Rattle.nb_journal.specs.Offsets.{offset_of}
 
 pub length-header : (gate : ℕ) (log : Log) → length (header gate log) ≡ 4096
 unfolding header
@@ -22,7 +22,7 @@ length-entries (entry ∷ entries) =
     let more = ap length (flat_map-cons entry_bytes entry entries) in
     omega (arith, more, length-append (entry_bytes entry) (flat_map entry_bytes entries), length-entry entry, length-entries entries)
 
-pub length-text : (log : Log) → length (text log) ≡ place_of (length log.entries)
+pub length-text : (log : Log) → length (text log) ≡ offset_of (length log.entries)
 length-text log =
     omega (arith, length-append (header 83 log) (flat_map entry_bytes log.entries), length-header 83 log, length-entries log.entries)
 
@@ -42,9 +42,9 @@ text_before log entry i within =
 
 -- and behind it stands the new entry
 pub text_behind : (log : Log) (entry : Entry) (n i : ℕ) → n ≡ length log.entries
-    → slice_index (text (with_entry log entry)) (place_of n + i) ≡ slice_index (entry_bytes entry) i
+    → slice_index (text (with_entry log entry)) (offset_of n + i) ≡ slice_index (entry_bytes entry) i
 text_behind log entry n i is =
-    let at : place_of n + i ≡ length (text log) + i = omega (arith, length-text log) in
+    let at : offset_of n + i ≡ length (text log) + i = omega (arith, length-text log) in
     ap (λ (k : ℕ). slice_index (text (with_entry log entry)) k) at
     ∙ ap (λ (w : List ℕ). slice_index w (length (text log) + i)) (text-with_entry log entry)
     ∙ get_or-append-add (text log) (entry_bytes entry) i 0

@@ -11,9 +11,9 @@ use Rattle.nb_journal.specs.declared.entry.Entry.{Entry}
 use Rattle.nb_journal.specs.declared.entry.Entry.TheVariants.{Leg, Tick}
 use Rattle.nb_journal.specs.declared.form.Heading.{Heading}
 use Rattle.nb_journal.specs.Counters.{Counters, counters_of, counters_after, log_under, heading_of}
-use Rattle.nb_journal.specs.Entries.{IsNext}
-use Rattle.nb_journal.specs.Form.{Log, IsLawful, IsFresh, IsJournal, IsStarted, IsDamaged, HasNoHeader, header, entry_bytes, edge_number, with_entry, progress_of}
-use Rattle.nb_journal.specs.Places.{place_of, page_end}
+use Rattle.nb_journal.specs.Entries.{IsNextEntry}
+use Rattle.nb_journal.specs.Form.{Log, IsLawful, IsFresh, IsJournal, IsStarted, IsDamagedAt, HasNoHeader, header, entry_bytes, edge_number, with_entry, progress_of}
+use Rattle.nb_journal.specs.Offsets.{offset_of, page_end}
 use Rattle.nb_journal.specs.Reading.{HasFields, IsReadTo}
 use Rattle.nb_journal.proofs.Decided.{both, equal_lists, lawful_heading, next_one}
 use Rattle.nb_journal.proofs.Found.{read_more, read_all, read_bad, read_short}
@@ -22,7 +22,7 @@ use Rattle.nb_journal.proofs.Headings.{HasNumbers, header_has, header_under, edg
 use Rattle.nb_journal.proofs.Indexed.{entry_has}
 use Rattle.nb_journal.proofs.Texts.{length-text, length-with_entry}
 
--- the number of the eight bytes from this place on
+-- the number of the eight bytes from this offset on
 number_at : List ℕ → ℕ → ℕ
 number_at bytes at = from_le_bytes w64 (take 8 (drop at bytes))
 
@@ -126,7 +126,7 @@ entry_is (Tick number gone) fits =
     (number_is (entry_bytes (Tick number gone)) 8 number fits.0 refl)
     ∙ ap (Tick number) (number_is (entry_bytes (Tick number gone)) 16 gone fits.1 refl)
 
-next_has : (log : Log) (entry : Entry) → IsLawful log → IsNext log.count (progress_of log) entry → HasFields entry
+next_has : (log : Log) (entry : Entry) → IsLawful log → IsNextEntry log.count (progress_of log) entry → HasFields entry
 next_has log entry lawful next =
     let n = length log.entries in
     let here : get_or (log.entries ++ entry ∷ []) (n + 0) (Leg 0) ≡ entry =
@@ -136,35 +136,35 @@ next_has log entry lawful next =
 
 -- the bytes of the next entry
 slot_at : ℕ → List ℕ → List ℕ
-slot_at n file = take 32 (drop (place_of n) file)
+slot_at n file = take 32 (drop (offset_of n) file)
 
-length-slot : (n : ℕ) (file : List ℕ) → place_of n + 32 ≤ length file → length (slot_at n file) ≡ 32
+length-slot : (n : ℕ) (file : List ℕ) → offset_of n + 32 ≤ length file → length (slot_at n file) ≡ 32
 unfolding slot_at
-length-slot n file whole = omega (arith, length-take 32 (drop (place_of n) file), length-drop (place_of n) file)
+length-slot n file whole = omega (arith, length-take 32 (drop (offset_of n) file), length-drop (offset_of n) file)
 
-slot_byte : (n : ℕ) (file : List ℕ) (i : ℕ) → i < 32 → slice_index (slot_at n file) i ≡ slice_index file (place_of n + i)
+slot_byte : (n : ℕ) (file : List ℕ) (i : ℕ) → i < 32 → slice_index (slot_at n file) i ≡ slice_index file (offset_of n + i)
 unfolding slot_at
 slot_byte n file i within =
-    get_or-take 32 (drop (place_of n) file) i 0 within ∙ get_or-drop (place_of n) file i 0
+    get_or-take 32 (drop (offset_of n) file) i 0 within ∙ get_or-drop (offset_of n) file i 0
 
 -- What a started file is of which so many entries were read.
 abbrev Rest : List ℕ → Type 0
-Rest file = ((log : Log) × IsJournal log file) ⊎ ((place : ℕ) × IsDamaged place file)
+Rest file = ((log : Log) × IsJournal log file) ⊎ ((offset : ℕ) × IsDamagedAt offset file)
 
 -- What a file is follows of what was read of it, where no more than so many entries are left.
 abbrev Goes : ℕ → List ℕ → Type 0
 Goes left file = (counters : Counters) → IsReadTo file counters
-    → (counters.entries % 128 ≡ 0) ⊎ (place_of (page_end counters.entries) ≤ length file)
-    → length file < place_of (counters.entries + left) → Rest file
+    → (counters.entries % 128 ≡ 0) ⊎ (offset_of (page_end counters.entries) ≤ length file)
+    → length file < offset_of (counters.entries + left) → Rest file
 
 on_page : (left : ℕ) (file : List ℕ) (counters : Counters) → IsStarted file → Goes left file → IsReadTo file counters
-    → place_of (page_end counters.entries) ≤ length file
-    → length file < place_of (counters.entries + suc left) → Rest file
+    → offset_of (page_end counters.entries) ≤ length file
+    → length file < offset_of (counters.entries + suc left) → Rest file
 on_page left file counters started go read page few =
     let n = counters.entries in
     let slot = slot_at n file in
     let long : length slot ≡ 32 = length-slot n file (omega (arith, page)) in
-    let at : (i : ℕ) → i < 32 → slice_index slot i ≡ slice_index file (place_of n + i) = λ i within. slot_byte n file i within in
+    let at : (i : ℕ) → i < 32 → slice_index slot i ≡ slice_index file (offset_of n + i) = λ i within. slot_byte n file i within in
     elim (cases_eq (slice_index slot 0) 71) [
       | inr shut ↦ let found = read_all n file slot counters refl read page at shut in inl (found.log, found.journal)
       | inl open' ↦
@@ -176,16 +176,16 @@ on_page left file counters started go read page few =
                 (omega (arith, few))
             | inr none ↦
                 inr (
-                  place_of n,
-                  read_bad n file slot counters (place_of n) refl started read page long at open'
+                  offset_of n,
+                  read_bad n file slot counters (offset_of n) refl started read page long at open'
                       (λ entry next spelled.
                       let log = read.log in
-                      let lawful_next : IsNext log.count (progress_of log) entry =
-                      subst (λ (c : Counters). IsNext c.count c.progress entry) read.answers next in
+                      let lawful_next : IsNextEntry log.count (progress_of log) entry =
+                      subst (λ (c : Counters). IsNextEntry c.count c.progress entry) read.answers next in
                       let same : entry_on slot ≡ entry =
                       ap entry_on spelled ∙ entry_is entry (next_has log entry read.lawful lawful_next) in
                       none (
-                        subst (λ (e : Entry). IsNext counters.count counters.progress e) (sym same) next,
+                        subst (λ (e : Entry). IsNextEntry counters.count counters.progress e) (sym same) next,
                         spelled ∙ ap entry_bytes (sym same),
                       ))
                       refl,
@@ -200,13 +200,13 @@ rest zero file started counters read reach few =
     absurd (omega (arith, few, n_is, read.begins.whole, length-text log))
 rest (suc left) file started counters read reach few =
     let n = counters.entries in
-    let page = λ (whole : place_of (page_end n) ≤ length file).
+    let page = λ (whole : offset_of (page_end n) ≤ length file).
     on_page left file counters started (rest left file started) read whole few in
     elim reach [
       | inr whole ↦ page whole
       | inl first ↦
-          elim (cases_lt (length file) (place_of n + 4096)) [
-            | inl short ↦ inr (place_of n, read_short n file counters (place_of n) refl started read refl first short)
+          elim (cases_lt (length file) (offset_of n + 4096)) [
+            | inl short ↦ inr (offset_of n, read_short n file counters (offset_of n) refl started read refl first short)
             | inr whole ↦ page (omega (arith, first, whole))
           ]
     ]
@@ -234,7 +234,7 @@ started_is file started =
     ]
 
 -- Each file is one of the three.
-pub every_file : (file : List ℕ) → IsFresh file ⊎ (((log : Log) × IsJournal log file) ⊎ ((place : ℕ) × IsDamaged place file))
+pub every_file : (file : List ℕ) → IsFresh file ⊎ (((log : Log) × IsJournal log file) ⊎ ((offset : ℕ) × IsDamagedAt offset file))
 every_file file =
     elim (cases_lt 4096 (length file)) [
       | inr short ↦ inl (inl short)

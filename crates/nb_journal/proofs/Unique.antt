@@ -1,4 +1,4 @@
--- A file is one journal at most, or damaged at one place.
+-- A file is one journal at most, or damaged at one offset.
 use Rattle.std.proofs.Common.{◌≡◌, ℕ, zero, suc, ◌+◌, ◌%◌, ◌<◌, ◌≤◌, ◌⊎◌, inl, inr, List, [], ◌∷◌, length, take, get_or, slice_index, sym, ap, subst, ◌∙◌, arith, length-take}
 use Rattle.std.proofs.lemmas.Bool.{cases_eq, cases_lt}
 use Rattle.std.proofs.lemmas.List.{ext_get_or, get_or-take}
@@ -6,9 +6,9 @@ use Rattle.nb_journal.specs.declared.entry.Entry.{Entry}
 use Rattle.nb_journal.specs.declared.entry.Entry.TheVariants.{Leg}
 use Rattle.nb_journal.specs.declared.form.Heading.{Heading}
 use Rattle.nb_journal.specs.Counters.{heading_of}
-use Rattle.nb_journal.specs.Entries.{Progress, IsNext, AreLawful, after, after_all}
-use Rattle.nb_journal.specs.Form.{Log, IsLawful, IsFresh, IsJournal, IsDamaged, StopsBehind, header, text, entry_bytes, begun, progress_of}
-use Rattle.nb_journal.specs.Places.{place_of, page_end, BeginsWith}
+use Rattle.nb_journal.specs.Entries.{Progress, IsNextEntry, AreLawful, progress_after, after_all}
+use Rattle.nb_journal.specs.Form.{Log, IsLawful, IsFresh, IsJournal, IsDamagedAt, StopsBehind, header, text, entry_bytes, begun, progress_of}
+use Rattle.nb_journal.specs.Offsets.{offset_of, page_end, BeginsWith}
 use Rattle.nb_journal.proofs.Gates.{begins_more}
 use Rattle.nb_journal.proofs.Headings.{same_heading, text_header}
 use Rattle.nb_journal.proofs.Indexed.{entry_slot, entry_has}
@@ -54,9 +54,9 @@ front_of a b file lawful_a lawful_b begins_a begins_b less =
     ∙ sym (one_entry a b file lawful_a lawful_b begins_a begins_b i low (omega arith)))
 
 -- the gate of an entry of the text is open
-gate_of : (log : Log) (file : List ℕ) (i : ℕ) → BeginsWith (text log) file → i < length log.entries → slice_index file (place_of i) ≡ 71
+gate_of : (log : Log) (file : List ℕ) (i : ℕ) → BeginsWith (text log) file → i < length log.entries → slice_index file (offset_of i) ≡ 71
 gate_of log file i begins within =
-    let there : place_of i ≡ place_of i + 0 = omega arith in
+    let there : offset_of i ≡ offset_of i + 0 = omega arith in
     ap (λ (k : ℕ). slice_index file k) there ∙ entry_slot log i file begins within 0 (omega arith) ∙ entry_gate_is (nth log i)
 
 record LogParts : Type 0 where
@@ -98,33 +98,33 @@ one_journal a b file journal_a journal_b =
 
 -- Each entry is a lawful next one after those before it.
 lawful_at : (count : ℕ) (s : Progress) (entries : List Entry) (i : ℕ) → AreLawful count s entries → i < length entries
-    → IsNext count (after_all (take i entries) s) (get_or entries i (Leg 0))
+    → IsNextEntry count (after_all (take i entries) s) (get_or entries i (Leg 0))
 lawful_at count s [] i lawful within = absurd (omega arith)
 lawful_at count s (entry ∷ entries) zero lawful within = lawful.0
-lawful_at count s (entry ∷ entries) (suc i) lawful within = lawful_at count (after entry s) entries i lawful.1 (omega arith)
+lawful_at count s (entry ∷ entries) (suc i) lawful within = lawful_at count (progress_after entry s) entries i lawful.1 (omega arith)
 
 -- The entry that a longer text has there is a lawful next one of the shorter.
 next_of : (a b : Log) (file : List ℕ) → IsLawful a → IsLawful b → BeginsWith (text a) file → BeginsWith (text b) file
-    → length a.entries < length b.entries → IsNext a.count (progress_of a) (nth b (length a.entries))
+    → length a.entries < length b.entries → IsNextEntry a.count (progress_of a) (nth b (length a.entries))
 next_of a b file lawful_a lawful_b begins_a begins_b less =
     let n = length a.entries in
     let heading = one_heading a b file lawful_a lawful_b begins_a begins_b in
     let front = front_of a b file lawful_a lawful_b begins_a begins_b (omega arith) in
     let start : begun b ≡ begun a =
     ap (λ (h : Heading). record { ticks = 0; time = h.time; target = h.time; gone = h.gone }) heading in
-    let next : IsNext b.count (after_all (take n b.entries) (begun b)) (nth b n) =
+    let next : IsNextEntry b.count (after_all (take n b.entries) (begun b)) (nth b n) =
     lawful_at b.count (begun b) b.entries n lawful_b.entries less in
-    subst (λ (c : ℕ). IsNext c (progress_of a) (nth b n)) (ap (λ (h : Heading). h.count) heading)
-    (subst (λ (s : Progress). IsNext b.count (after_all a.entries s) (nth b n)) start
-    (subst (λ (e : List Entry). IsNext b.count (after_all e (begun b)) (nth b n)) front next))
+    subst (λ (c : ℕ). IsNextEntry c (progress_of a) (nth b n)) (ap (λ (h : Heading). h.count) heading)
+    (subst (λ (s : Progress). IsNextEntry b.count (after_all a.entries s) (nth b n)) start
+    (subst (λ (e : List Entry). IsNextEntry b.count (after_all e (begun b)) (nth b n)) front next))
 
 -- A file doesn't stop behind a text where a longer one begins it, of which the pages are whole or that ends with a page.
-stops_before : (a b : Log) (place : ℕ) (file : List ℕ) → StopsBehind a place file → IsLawful b → BeginsWith (text b) file
-    → ((place_of (page_end (length b.entries)) ≤ length file) ⊎ (length b.entries % 128 ≡ 0))
+stops_before : (a b : Log) (offset : ℕ) (file : List ℕ) → StopsBehind a offset file → IsLawful b → BeginsWith (text b) file
+    → ((offset_of (page_end (length b.entries)) ≤ length file) ⊎ (length b.entries % 128 ≡ 0))
     → length a.entries < length b.entries → ⊥
-stops_before a b place file stops lawful begins reach less =
+stops_before a b offset file stops lawful begins reach less =
     let n = length a.entries in
-    let long : place_of (length b.entries) ≤ length file = omega (arith, begins.whole, length-text b) in
+    let long : offset_of (length b.entries) ≤ length file = omega (arith, begins.whole, length-text b) in
     elim stops.fault [
       | inl lacks ↦
           elim reach [
@@ -136,13 +136,13 @@ stops_before a b place file stops lawful begins reach less =
           (begins_more a (nth b n) file stops.begins (omega arith) (λ j small. entry_slot b n file begins less j small))
     ]
 
-reach_of : (log : Log) (place : ℕ) (file : List ℕ) → StopsBehind log place file
-    → (place_of (page_end (length log.entries)) ≤ length file) ⊎ (length log.entries % 128 ≡ 0)
-reach_of log place file stops = elim stops.fault [ inl lacks ↦ inr lacks.first | inr wrong ↦ inl wrong.page ]
+reach_of : (log : Log) (offset : ℕ) (file : List ℕ) → StopsBehind log offset file
+    → (offset_of (page_end (length log.entries)) ≤ length file) ⊎ (length log.entries % 128 ≡ 0)
+reach_of log offset file stops = elim stops.fault [ inl lacks ↦ inr lacks.first | inr wrong ↦ inl wrong.page ]
 
 -- No journal is damaged.
-pub not_both : (log : Log) (place : ℕ) (file : List ℕ) → IsJournal log file → IsDamaged place file → ⊥
-not_both a place file journal damaged =
+pub not_both : (log : Log) (offset : ℕ) (file : List ℕ) → IsJournal log file → IsDamagedAt offset file → ⊥
+not_both a offset file journal damaged =
     elim damaged.wrong [
       | inl none ↦ none.1 a journal.lawful journal.begins
       | inr behind ↦
@@ -156,15 +156,15 @@ not_both a place file journal damaged =
                       elim stops.fault [
                         | inl lacks ↦ absurd (omega (arith, lacks.first, lacks.short, journal.pages, same))
                         | inr wrong ↦
-                            journal.shut (subst (λ (k : ℕ). slice_index file (place_of k) ≡ 71) same wrong.gate)
+                            journal.shut (subst (λ (k : ℕ). slice_index file (offset_of k) ≡ 71) same wrong.gate)
                       ]
-                  | inr apart ↦ stops_before b a place file stops journal.lawful journal.begins (inl journal.pages) (omega arith)
+                  | inr apart ↦ stops_before b a offset file stops journal.lawful journal.begins (inl journal.pages) (omega arith)
                 ]
           ]
     ]
 
--- A damaged file has one place.
-pub one_damage : (p q : ℕ) (file : List ℕ) → IsDamaged p file → IsDamaged q file → p ≡ q
+-- A damaged file has one offset.
+pub one_damage : (p q : ℕ) (file : List ℕ) → IsDamagedAt p file → IsDamagedAt q file → p ≡ q
 one_damage p q file first second =
     elim first.wrong [
       | inl none ↦
@@ -185,7 +185,7 @@ one_damage p q file first second =
                       absurd (stops_before a b p file stops stops'.lawful stops'.begins (reach_of b q file stops') less)
                   | inr least ↦
                       elim (cases_eq (length b.entries) (length a.entries)) [
-                        | inl same ↦ stops.here ∙ ap place_of (sym same) ∙ sym stops'.here
+                        | inl same ↦ stops.here ∙ ap offset_of (sym same) ∙ sym stops'.here
                         | inr apart ↦
                             absurd (stops_before b a q file stops' stops.lawful stops.begins (reach_of a p file stops) (omega arith))
                       ]
@@ -194,8 +194,8 @@ one_damage p q file first second =
     ]
 
 -- A file without a started journal is neither.
-pub fresh_alone : (log : Log) (place : ℕ) (file : List ℕ) → IsFresh file → IsJournal log file ⊎ IsDamaged place file → ⊥
-fresh_alone log place file fresh either =
+pub fresh_alone : (log : Log) (offset : ℕ) (file : List ℕ) → IsFresh file → IsJournal log file ⊎ IsDamagedAt offset file → ⊥
+fresh_alone log offset file fresh either =
     elim either [
       | inl journal ↦
           elim fresh [

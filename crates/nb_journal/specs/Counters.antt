@@ -6,7 +6,7 @@ use Rattle.nb_model.specs.Limits.{most_bodies, most_ticks}
 use Rattle.nb_model.specs.Valid.{AreInRange}
 use Rattle.nb_journal.specs.declared.entry.Entry.{Entry}
 use Rattle.nb_journal.specs.declared.form.Heading.{Heading}
-use Rattle.nb_journal.specs.Entries.{Progress, after}
+use Rattle.nb_journal.specs.Entries.{Progress, progress_after}
 use Rattle.nb_journal.specs.Form.{Log, progress_of}
 
 -- the parameters, how many bodies there are, the time at the start, how many entries there are, and what they come to
@@ -33,7 +33,7 @@ Answers log counters = counters ≡ counters_of log
 -- the counters after one more entry
 abbrev pub counters_after : Entry → Counters → Counters
 counters_after entry counters =
-    record counters { entries = counters.entries + 1; progress = after entry counters.progress }
+    record counters { entries = counters.entries + 1; progress = progress_after entry counters.progress }
 
 -- the log of a heading, without entries
 abbrev pub log_under : Heading → Log
@@ -61,7 +61,7 @@ abbrev pub new_log : Params → ℕ → ℕ → ℕ → Log
 new_log params count time gone =
     log_under (record { version = 2; params = params; count = count; time = time; gone = gone })
 
--- What holds of each `Journal`, whatever its host tells. So the counts of ticks and of entries stay small, and no place in
+-- What holds of each `Journal`, whatever its host tells. So the counts of ticks and of entries stay small, and no offset in
 -- the file is too large for its type.
 pub record AreInReach (counters : Counters) : Type 0 where
   pub params : AreInRange counters.params

@@ -17,14 +17,14 @@ pub record Progress : Type 0 where
 abbrev pub toward : ℕ → ℕ → ℕ
 toward time target = if nat_lt time target then time + 1 else time - 1
 
-abbrev pub after : Entry → Progress → Progress
-after (Leg target) s = record s { target = target }
-after (Tick number gone) s =
+abbrev pub progress_after : Entry → Progress → Progress
+progress_after (Leg target) s = record s { target = target }
+progress_after (Tick number gone) s =
     record { ticks = number; time = toward s.time s.target; target = s.target; gone = gone }
 
 abbrev pub after_all : List Entry → Progress → Progress
 after_all [] s = s
-after_all (entry ∷ entries) s = after_all entries (after entry s)
+after_all (entry ∷ entries) s = after_all entries (progress_after entry s)
 
 -- A leg begins where the one before it ended, and leads to another time. A run has no more ticks than `most_ticks`.
 pub record IsNextLeg (s : Progress) (target : ℕ) : Type 0 where
@@ -41,11 +41,11 @@ pub record IsNextTick (count : ℕ) (s : Progress) (number gone : ℕ) : Type 0 
   pub no_more : gone ≤ count
 
 -- The entry is a lawful next one, for so many bodies.
-abbrev pub IsNext : ℕ → Progress → Entry → Type 0
-IsNext count s (Leg target) = IsNextLeg s target
-IsNext count s (Tick number gone) = IsNextTick count s number gone
+abbrev pub IsNextEntry : ℕ → Progress → Entry → Type 0
+IsNextEntry count s (Leg target) = IsNextLeg s target
+IsNextEntry count s (Tick number gone) = IsNextTick count s number gone
 
 -- each entry is a lawful next one after those before it
 abbrev pub AreLawful : ℕ → Progress → List Entry → Type 0
 AreLawful count s [] = ⊤
-AreLawful count s (entry ∷ entries) = IsNext count s entry × AreLawful count (after entry s) entries
+AreLawful count s (entry ∷ entries) = IsNextEntry count s entry × AreLawful count (progress_after entry s) entries

@@ -8,8 +8,8 @@ use Rattle.nb_journal.specs.declared.finding.Opened.{Opened}
 use Rattle.nb_journal.specs.declared.finding.Opened.TheVariants.{Fresh, Made}
 use Rattle.nb_journal.specs.Counters.{Counters, Answers}
 use Rattle.nb_journal.specs.declared.entry.Entry.{Entry}
-use Rattle.nb_journal.specs.Form.{Log, IsFresh, IsJournal, IsDamaged}
-use Rattle.nb_journal.specs.Places.{place_of}
+use Rattle.nb_journal.specs.Form.{Log, IsFresh, IsJournal, IsDamagedAt}
+use Rattle.nb_journal.specs.Offsets.{offset_of}
 
 -- a host's refusal, as a reader of the journal hands it on
 abbrev pub error_of : HostError → JournalError
@@ -26,16 +26,16 @@ pub record IsFound (counters : Counters) (file : List ℕ) : Type 0 where
 abbrev pub Finds : List ℕ → Result Opened JournalError → Type 0
 Finds file (Ok Fresh) = IsFresh file
 Finds file (Ok (Made counters)) = IsFound counters file
-Finds file (Err (journal.Damaged place)) = IsDamaged place file
+Finds file (Err (journal.Damaged offset)) = IsDamagedAt offset file
 Finds file (Err journal.Fault) = ⊤
 Finds file (Err journal.NoMemory) = ⊤
 
 -- What `entry` answers of a file whose journal is a log: the log's entry.
-abbrev pub IsEntryOf : ℕ → Counters → List ℕ → Entry → Type 0
-IsEntryOf index counters file entry = (log : Log) → Answers log counters → IsJournal log file
+abbrev pub IsEntryAt : ℕ → Counters → List ℕ → Entry → Type 0
+IsEntryAt index counters file entry = (log : Log) → Answers log counters → IsJournal log file
     → slice_get log.entries index ≡ Some entry
 
--- Why it refuses an entry at this place: the file isn't a journal with these counters.
-pub record LacksEntry (index : ℕ) (counters : Counters) (place : ℕ) (tells : Bool) (file : List ℕ) : Type 0 where
-  pub here : place ≡ place_of index
+-- Why it refuses an entry at this offset: the file isn't a journal with these counters.
+pub record LacksEntry (index : ℕ) (counters : Counters) (offset : ℕ) (tells : Bool) (file : List ℕ) : Type 0 where
+  pub here : offset ≡ offset_of index
   pub cause : IsTrue tells → IsFound counters file → ⊥

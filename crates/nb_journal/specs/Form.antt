@@ -10,8 +10,8 @@ use Rattle.nb_model.specs.Limits.{most_bodies}
 use Rattle.nb_model.specs.Valid.{AreInRange}
 use Rattle.nb_journal.specs.declared.entry.Entry.{Entry}
 use Rattle.nb_journal.specs.declared.entry.Entry.TheVariants.{Leg, Tick}
-use Rattle.nb_journal.specs.Entries.{Progress, IsNext, AreLawful, after_all}
-use Rattle.nb_journal.specs.Places.{page_length, entries_per_page, started_gate, entry_gate, place_of, page_end, BeginsWith}
+use Rattle.nb_journal.specs.Entries.{Progress, IsNextEntry, AreLawful, after_all}
+use Rattle.nb_journal.specs.Offsets.{page_length, entries_per_page, started_gate, entry_gate, offset_of, page_end, BeginsWith}
 
 -- What a journal tells: the version of its form, the run's parameters, how many bodies there are, the time at the start,
 -- how many bodies were out then, and the entries.
@@ -89,13 +89,13 @@ IsFresh file = (length file ≤ page_length) ⊎ (slice_index file 0 ≢ started
 pub record IsJournal (log : Log) (file : List ℕ) : Type 0 where
   pub lawful : IsLawful log
   pub begins : BeginsWith (text log) file
-  pub pages : place_of (page_end (length log.entries)) ≤ length file
-  pub shut : slice_index file (place_of (length log.entries)) ≢ entry_gate
+  pub pages : offset_of (page_end (length log.entries)) ≤ length file
+  pub shut : slice_index file (offset_of (length log.entries)) ≢ entry_gate
 
 -- No gate is open from the next entry on to the end of its page.
 abbrev pub HasCleanTail : Log → List ℕ → Type 0
 HasCleanTail log file = (i : ℕ) → length log.entries ≤ i → i < page_end (length log.entries)
-    → slice_index file (place_of i) ≢ entry_gate
+    → slice_index file (offset_of i) ≢ entry_gate
 
 pub record IsCleanJournal (log : Log) (file : List ℕ) : Type 0 where
   pub journal : IsJournal log file
@@ -114,25 +114,25 @@ HasNoHeader file = (log : Log) → IsLawful log → BeginsWith (text log) file �
 -- the file ends within the page that begins with entry n
 pub record LacksPage (n : ℕ) (file : List ℕ) : Type 0 where
   pub first : n % entries_per_page ≡ 0
-  pub short : length file < place_of n + page_length
+  pub short : length file < offset_of n + page_length
 
 -- The next entry's page is whole and its gate is open, and it is no lawful next one.
 pub record HasBadEntry (log : Log) (file : List ℕ) : Type 0 where
-  pub page : place_of (page_end (length log.entries)) ≤ length file
-  pub gate : slice_index file (place_of (length log.entries)) ≡ entry_gate
-  pub bad : (entry : Entry) → IsNext log.count (progress_of log) entry
+  pub page : offset_of (page_end (length log.entries)) ≤ length file
+  pub gate : slice_index file (offset_of (length log.entries)) ≡ entry_gate
+  pub bad : (entry : Entry) → IsNextEntry log.count (progress_of log) entry
       → BeginsWith (text (with_entry log entry)) file → ⊥
 
 -- Behind the text of this log stands what is wrong: a page that is looked at, since the gates before it are open, or an
 -- entry.
-pub record StopsBehind (log : Log) (place : ℕ) (file : List ℕ) : Type 0 where
+pub record StopsBehind (log : Log) (offset : ℕ) (file : List ℕ) : Type 0 where
   pub lawful : IsLawful log
   pub begins : BeginsWith (text log) file
-  pub here : place ≡ place_of (length log.entries)
+  pub here : offset ≡ offset_of (length log.entries)
   pub fault : LacksPage (length log.entries) file ⊎ HasBadEntry log file
 
--- The file is started, and this is the place of the first thing in it that is wrong: the header, a page that isn't whole,
+-- The file is started, and this is the offset of the first thing in it that is wrong: the header, a page that isn't whole,
 -- or an entry. No file has two (`law_one_damage`), and none is a journal too (`law_not_both`).
-pub record IsDamaged (place : ℕ) (file : List ℕ) : Type 0 where
+pub record IsDamagedAt (offset : ℕ) (file : List ℕ) : Type 0 where
   pub started : IsStarted file
-  pub wrong : ((place ≡ 0) × HasNoHeader file) ⊎ ((log : Log) × StopsBehind log place file)
+  pub wrong : ((offset ≡ 0) × HasNoHeader file) ⊎ ((log : Log) × StopsBehind log offset file)

@@ -1,4 +1,4 @@
-pub mod Places
+pub mod Offsets
 pub mod Entries
 pub mod Form
 pub mod Counters

@@ -6,8 +6,8 @@ use Rattle.nb_journal.specs.declared.error.JournalError.{JournalError}
 use Rattle.nb_journal.specs.declared.error.JournalError.TheVariants.{Fault, NoMemory, Damaged}
 use Rattle.nb_journal.specs.Counters.{Counters, Answers}
 use Rattle.nb_journal.specs.Finding.{IsFound}
-use Rattle.nb_journal.specs.Form.{Log, IsLawful, IsDamaged, text}
-use Rattle.nb_journal.specs.Places.{page_length, entries_per_page, place_of, page_end, BeginsWith}
+use Rattle.nb_journal.specs.Form.{Log, IsLawful, IsDamagedAt, text}
+use Rattle.nb_journal.specs.Offsets.{page_length, entries_per_page, offset_of, page_end, BeginsWith}
 
 -- The numbers of an entry fit its fields.
 abbrev pub HasFields : Entry → Type 0
@@ -16,9 +16,9 @@ HasFields (Tick number gone) = (number < 2 ^ 64) × (gone < 2 ^ 64)
 
 -- The page of entry n is whole in the file, and these are its bytes.
 pub record HoldsPage (n : ℕ) (file page : List ℕ) : Type 0 where
-  pub whole : place_of (page_end n) ≤ length file
+  pub whole : offset_of (page_end n) ≤ length file
   pub bytes : (i : ℕ) → i < page_length
-      → slice_index page i ≡ slice_index file (place_of (entries_per_page * (n / entries_per_page)) + i)
+      → slice_index page i ≡ slice_index file (offset_of (entries_per_page * (n / entries_per_page)) + i)
 
 -- The file begins with the text of a log that has these counters.
 pub record IsReadTo (file : List ℕ) (counters : Counters) : Type 0 where
@@ -30,6 +30,6 @@ pub record IsReadTo (file : List ℕ) (counters : Counters) : Type 0 where
 -- what is found behind the entries that were read
 abbrev pub FindsRest : List ℕ → Result Counters JournalError → Type 0
 FindsRest file (Ok counters) = IsFound counters file
-FindsRest file (Err (Damaged place)) = IsDamaged place file
+FindsRest file (Err (Damaged offset)) = IsDamagedAt offset file
 FindsRest file (Err Fault) = ⊤
 FindsRest file (Err NoMemory) = ⊤

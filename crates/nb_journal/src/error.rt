@@ -15,7 +15,7 @@ pub enum JournalError {
     /// Memory is wanting.
     #[error("no memory")]
     NoMemory,
-    /// The journal is damaged at this place in its file, in bytes.
+    /// The journal is damaged at this offset in its file, in bytes.
     #[error("damaged at {0}")]
     Damaged(u64),
 }

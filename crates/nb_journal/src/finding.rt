@@ -5,11 +5,11 @@ ghost use Rattle.nb_host.specs.Crashes.{Stays};
 ghost use Rattle.nb_host.specs.Meaning.{Ran};
 ghost use Rattle.nb_journal.specs.Finding.{Finds};
 ghost use Rattle.nb_journal.specs.Form.{IsStarted};
-ghost use Rattle.nb_journal.specs.Places.{journal_file, place_of, page_end};
+ghost use Rattle.nb_journal.specs.Offsets.{journal_file, offset_of, page_end};
 ghost use Rattle.nb_journal.specs.Reading.{HoldsPage, IsReadTo, FindsRest};
 
 use crate::error::JournalError;
-use crate::form::{ENTRIES_PER_PAGE, ENTRY_LENGTH, JOURNAL_FILE, PAGE_LENGTH, STARTED, place_of};
+use crate::form::{ENTRIES_PER_PAGE, ENTRY_LENGTH, JOURNAL_FILE, PAGE_LENGTH, STARTED, offset_of};
 use crate::heading::said;
 use crate::journal::Journal;
 use crate::reading::{counts, slot};
@@ -24,7 +24,7 @@ pub enum Opened {
     Made(Journal),
 }
 
-/// Reads the journal, a page at a time. It only reads, and damage is told with its place in the file.
+/// Reads the journal, a page at a time. It only reads, and damage is told with its offset in the file.
 pub fn find<H: Host>(host: &mut H) -> Result<Opened, JournalError>
     ensures found { IsTrue H.meaning.tells
         → Finds ((H.meaning.contents host.old).file journal_file) result }
@@ -74,7 +74,7 @@ fn read_entries<H: Host>(host: &mut H, len: u64, journal: Journal) -> Result<Jou
         }
         let entry = match journal.next(&bytes) {
             Some(entry) => entry,
-            None => return Err(JournalError::Damaged(place_of(entries))),
+            None => return Err(JournalError::Damaged(offset_of(entries))),
         };
         journal = journal.with(entry);
     }
@@ -91,19 +91,19 @@ fn fill<H: Host>(
     ensures held { OnOk result ((file : List ℕ) → IsTrue H.meaning.tells
         → (H.meaning.contents host.old).file journal_file ≡ file → len ≡ length file
         → (entries % 128 ≢ 0 → HoldsPage entries file page.old) → HoldsPage entries file page.new) }
-    ensures within { OnOk result ((entries % 128 ≢ 0 → place_of (page_end entries) ≤ len)
-        → place_of (page_end entries) ≤ len) }
-    ensures damaged { (place : ℕ) → result ≡ Err (JournalError.Damaged place)
-        → (place ≡ place_of entries) × (entries % 128 ≡ 0) × (len < place + 4096) }
+    ensures within { OnOk result ((entries % 128 ≢ 0 → offset_of (page_end entries) ≤ len)
+        → offset_of (page_end entries) ≤ len) }
+    ensures damaged { (offset : ℕ) → result ≡ Err (JournalError.Damaged offset)
+        → (offset ≡ offset_of entries) × (entries % 128 ≡ 0) × (len < offset + 4096) }
     ensures ran { Ran H.meaning JournalError.Fault Stays host.old host.new result }
 {
     if entries % ENTRIES_PER_PAGE != 0 {
         return Ok(());
     }
-    let place = place_of(entries);
-    if len < place + PAGE_LENGTH {
-        return Err(JournalError::Damaged(place));
+    let offset = offset_of(entries);
+    if len < offset + PAGE_LENGTH {
+        return Err(JournalError::Damaged(offset));
     }
-    host.read_at(JOURNAL_FILE, place, page)?;
+    host.read_at(JOURNAL_FILE, offset, page)?;
     Ok(())
 }

@@ -3,7 +3,7 @@
 ghost use Rattle.std.specs.Prelude.{◌≡◌, ◌^◌, ◌<◌, ◌≤◌};
 ghost use Rattle.nb_journal.specs.Counters.{log_under};
 ghost use Rattle.nb_journal.specs.Form.{front, header, lettered, entry_bytes, edge_number};
-ghost use Rattle.nb_journal.specs.Places.{place_of};
+ghost use Rattle.nb_journal.specs.Offsets.{offset_of};
 
 use crate::entry::Entry;
 use nb_host::PAGE_SIZE;
@@ -64,9 +64,9 @@ pub(crate) struct Heading {
 }
 
 /// Where entry number `entry` stands, in bytes.
-pub(crate) fn place_of(entry: u64) -> u64
+pub(crate) fn offset_of(entry: u64) -> u64
     requires { entry < 2 ^ 50 }
-    ensures { result ≡ place_of entry }
+    ensures { result ≡ offset_of entry }
 {
     PAGE_LENGTH + ENTRY_LENGTH as u64 * entry
 }

@@ -6,16 +6,18 @@ ghost use Rattle.nb_host.specs.Image.{FileBecomes, IsOverwritten, IsTorn};
 ghost use Rattle.nb_host.specs.Meaning.{IsDurable, Over, Ran, RanSyncing};
 ghost use Rattle.nb_journal.specs.declared.entry.Entry.{Entry as Entries};
 ghost use Rattle.nb_journal.specs.Counters.{Answers, AreInReach, counters_after, counters_of, log_under};
-ghost use Rattle.nb_journal.specs.Entries.{IsNext, toward};
-ghost use Rattle.nb_journal.specs.Finding.{IsEntryOf, LacksEntry};
+ghost use Rattle.nb_journal.specs.Entries.{IsNextEntry, toward};
+ghost use Rattle.nb_journal.specs.Finding.{IsEntryAt, LacksEntry};
 ghost use Rattle.nb_journal.specs.Form.{Log, IsLawful, IsCleanJournal, entry_bytes, with_entry};
-ghost use Rattle.nb_journal.specs.Images.{entry_laid, entry_added, IsEntryTorn, IsReady, Appends};
+ghost use Rattle.nb_journal.specs.Images.{entry_laid, entry_added, IsEntryTorn, IsCleanNow, Appends};
 ghost use Rattle.nb_journal.specs.Laying.{Lays, IsEntryWritten};
-ghost use Rattle.nb_journal.specs.Places.{journal_file, place_of, page_end};
+ghost use Rattle.nb_journal.specs.Offsets.{journal_file, offset_of, page_end};
 
 use crate::entry::Entry;
 use crate::error::JournalError;
-use crate::form::{COUNTS, ENTRIES_PER_PAGE, ENTRY_LENGTH, Heading, JOURNAL_FILE, place_of, spell};
+use crate::form::{
+    COUNTS, ENTRIES_PER_PAGE, ENTRY_LENGTH, Heading, JOURNAL_FILE, offset_of, spell,
+};
 use crate::reading::{parse, spells};
 use nb_host::{Host, HostError, PAGE_SIZE};
 use nb_model::{MOST_TICKS, Params};
@@ -135,7 +137,7 @@ impl Journal {
     /// every file, is durable. A refusal hands nothing back. The journal then has the entry or hasn't, and is
     /// to be found again.
     pub fn append<H: Host>(self, host: &mut H, entry: Entry) -> Result<Journal, HostError>
-        requires next { IsNext self.count self.progress entry }
+        requires next { IsNextEntry self.count self.progress entry }
         ensures counters { IfOk result (λ journal. journal ≡ counters_after entry self) }
         ensures added { OnOk result ((log : Log) → Answers log self → IsTrue H.meaning.tells
             → IsCleanJournal log ((H.meaning.contents host.old).file journal_file)
@@ -143,7 +145,7 @@ impl Journal {
         ensures written { OnOk result (IsTrue H.meaning.tells → (H.meaning.contents host.new).file journal_file
             ≡ entry_added self.entries entry ((H.meaning.contents host.old).file journal_file)) }
         ensures durable { OnOk result (IsDurable H.meaning host.new) }
-        ensures images { (log : Log) → Answers log self → IsReady H.meaning log host.old
+        ensures images { (log : Log) → Answers log self → IsCleanNow H.meaning log host.old
             → ImagesFollow H.meaning.crashes host.old host.new
             (Appends log entry (H.meaning.contents host.old)) }
         ensures ran { RanSyncing H.meaning 2 HostError.Fault
@@ -153,7 +155,7 @@ impl Journal {
         let journal = self.with(entry);
         lay(host, entries, entry)?;
         host.sync()?;
-        open_gate(host, place_of(entries), COUNTS)?;
+        open_gate(host, offset_of(entries), COUNTS)?;
         Ok(journal)
     }
 
@@ -161,32 +163,32 @@ impl Journal {
     pub fn entry<H: Host>(&self, host: &mut H, index: u64) -> Result<Entry, JournalError>
         requires { index < self.now.entries }
         ensures entry { IfOk result (λ entry. IsTrue H.meaning.tells
-            → IsEntryOf index self.now ((H.meaning.contents host.old).file journal_file) entry) }
-        ensures damaged { (place : ℕ) → result ≡ Err (JournalError.Damaged place)
-            → LacksEntry index self.now place H.meaning.tells
+            → IsEntryAt index self.now ((H.meaning.contents host.old).file journal_file) entry) }
+        ensures damaged { (offset : ℕ) → result ≡ Err (JournalError.Damaged offset)
+            → LacksEntry index self.now offset H.meaning.tells
             ((H.meaning.contents host.old).file journal_file) }
         ensures ran { Ran H.meaning JournalError.Fault Stays host.old host.new result }
     {
         let _entries = self.entries;
-        let place = place_of(index);
+        let offset = offset_of(index);
         let mut bytes = [0; ENTRY_LENGTH];
-        let got = host.read_at(JOURNAL_FILE, place, &mut bytes)?;
+        let got = host.read_at(JOURNAL_FILE, offset, &mut bytes)?;
         if got < ENTRY_LENGTH {
-            return Err(JournalError::Damaged(place));
+            return Err(JournalError::Damaged(offset));
         }
         let entry = parse(&bytes);
         if !spells(entry, &bytes) {
-            return Err(JournalError::Damaged(place));
+            return Err(JournalError::Damaged(offset));
         }
         Ok(entry)
     }
 
     /// The lawful next entry that these are the bytes of, if there is one.
     pub(crate) fn next(&self, bytes: &[u8; ENTRY_LENGTH]) -> Option<Entry>
-        ensures some { IfSome result (λ entry. IsNext self.now.count self.now.progress entry
+        ensures some { IfSome result (λ entry. IsNextEntry self.now.count self.now.progress entry
             × (bytes.now ≡ entry_bytes entry)) }
         ensures none { result ≡ None → (entry : Entries)
-            → IsNext self.now.count self.now.progress entry → bytes.now ≡ entry_bytes entry → ⊥ }
+            → IsNextEntry self.now.count self.now.progress entry → bytes.now ≡ entry_bytes entry → ⊥ }
     {
         let _count = self.count;
         let entry = parse(bytes);
@@ -201,7 +203,7 @@ impl Journal {
 
     /// Whether the entry is a lawful next one.
     pub(crate) fn allows(&self, entry: Entry) -> bool
-        ensures { IsTrue result ↔ IsNext self.now.count self.now.progress entry }
+        ensures { IsTrue result ↔ IsNextEntry self.now.count self.now.progress entry }
     {
         match entry {
             Entry::Leg(target) => {
@@ -220,7 +222,7 @@ impl Journal {
 
     /// The counters after the entry.
     pub(crate) fn with(self, entry: Entry) -> Journal
-        requires { IsNext self.count self.progress entry }
+        requires { IsNextEntry self.count self.progress entry }
         ensures counters { result ≡ counters_after entry self }
     {
         let mut journal = self;
@@ -249,31 +251,31 @@ fn time_toward(time: u64, target: u64) -> u64
 fn lay<H: Host>(host: &mut H, entries: u64, entry: Entry) -> Result<(), HostError>
     requires few { entries < 2 ^ 42 }
     ensures laid { OnOk result (IsTrue H.meaning.tells
-        → place_of (page_end entries) ≤ length ((H.meaning.contents host.old).file journal_file)
+        → offset_of (page_end entries) ≤ length ((H.meaning.contents host.old).file journal_file)
         → IsEntryWritten entries entry ((H.meaning.contents host.new).file journal_file)) }
     ensures written { OnOk result (IsTrue H.meaning.tells → (H.meaning.contents host.new).file journal_file
         ≡ entry_laid entries entry ((H.meaning.contents host.old).file journal_file)) }
     ensures ran { Ran H.meaning HostError.Fault (Lays entries) host.old host.new result }
 {
     let bytes = spell(entry);
-    host.write_at(JOURNAL_FILE, place_of(entries) + 1, &bytes[1..])?;
+    host.write_at(JOURNAL_FILE, offset_of(entries) + 1, &bytes[1..])?;
     if entries % ENTRIES_PER_PAGE != ENTRIES_PER_PAGE - 1 {
         return Ok(());
     }
-    host.write_at(JOURNAL_FILE, place_of(entries + 1), &[0; PAGE_SIZE])?;
+    host.write_at(JOURNAL_FILE, offset_of(entries + 1), &[0; PAGE_SIZE])?;
     Ok(())
 }
 
 /// Writes a gate, and makes it durable.
-pub(crate) fn open_gate<H: Host>(host: &mut H, place: u64, gate: u8) -> Result<(), HostError>
-    requires { place < 2 ^ 60 }
-    ensures opened { OnOk result (Over H.meaning (FileBecomes journal_file (IsOverwritten place (gate ∷ [])))
+pub(crate) fn open_gate<H: Host>(host: &mut H, offset: u64, gate: u8) -> Result<(), HostError>
+    requires { offset < 2 ^ 60 }
+    ensures opened { OnOk result (Over H.meaning (FileBecomes journal_file (IsOverwritten offset (gate ∷ [])))
         host.old host.new) }
     ensures durable { OnOk result (IsDurable H.meaning host.new) }
-    ensures ran { RanSyncing H.meaning 1 HostError.Fault (FileBecomes journal_file (IsTorn place 1)) host.old
+    ensures ran { RanSyncing H.meaning 1 HostError.Fault (FileBecomes journal_file (IsTorn offset 1)) host.old
         host.new result }
 {
-    host.write_at(JOURNAL_FILE, place, &[gate])?;
+    host.write_at(JOURNAL_FILE, offset, &[gate])?;
     host.sync()?;
     Ok(())
 }

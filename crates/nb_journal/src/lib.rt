@@ -21,8 +21,8 @@ pub use error::JournalError;
 pub use finding::{Opened, find};
 pub use journal::Journal;
 pub use laws::{
-    law_counters, law_every_file, law_fresh_alone, law_kept, law_not_both, law_one_damage,
-    law_one_journal, law_places, law_ready,
+    law_counters, law_every_file, law_fresh_alone, law_kept, law_not_both, law_numbers,
+    law_one_damage, law_one_journal, law_ready,
 };
 pub use ready::{Ready, prepare, start_gate};
 

@@ -10,7 +10,7 @@ use crate::entry::Entry;
 use crate::form::{COUNTS, ENTRY_LENGTH, LEG, spell};
 use nb_host::PAGE_SIZE;
 
-/// The number of the eight bytes from this place on.
+/// The number of the eight bytes from this offset on.
 pub(crate) fn u64_at(bytes: &[u8], at: usize) -> u64
     requires { at + 8 ≤ length bytes.now }
     ensures { take 8 (drop at bytes.now) ≡ to_le_bytes w64 result }
@@ -27,7 +27,7 @@ pub(crate) fn u64_at(bytes: &[u8], at: usize) -> u64
     ])
 }
 
-/// The bytes of the entry at this place of a page.
+/// The bytes of the entry at this offset of a page.
 pub(crate) fn slot(page: &[u8; PAGE_SIZE], at: usize) -> [u8; ENTRY_LENGTH]
     requires { at + 32 ≤ 4096 }
     ensures cut { result ≡ take 32 (drop at page.now) }

@@ -9,7 +9,7 @@ ghost use Rattle.nb_host.specs.Meaning.{IsDurable, IsDurableFile, RanSyncing};
 ghost use Rattle.nb_journal.specs.Counters.{counters_of, new_log};
 ghost use Rattle.nb_journal.specs.Form.{IsCleanJournal};
 ghost use Rattle.nb_journal.specs.Images.{prepared, syncs_of_cut, IsFreshNow, IsPrepared, StaysFresh, Starts};
-ghost use Rattle.nb_journal.specs.Places.{journal_file, page_length, started_gate};
+ghost use Rattle.nb_journal.specs.Offsets.{journal_file, page_length, started_gate};
 
 use crate::form::{Heading, JOURNAL_FILE, PAGE_LENGTH, SHUT, STARTED, VERSION, page};
 use crate::journal::{Journal, open_gate};

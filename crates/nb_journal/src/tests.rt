@@ -107,7 +107,7 @@ fn writes_and_reads_bytes(rt: HostRuntime) -> Result<(), Fail> {
     Ok(())
 }
 
-/// Changes of a journal with `LEG` and `TICK`, each a byte's place and its value, and what is found then.
+/// Changes of a journal with `LEG` and `TICK`, each a byte's offset and its value, and what is found then.
 const FILES: [(&[(usize, u8)], Result<Option<u64>, JournalError>); 17] = [
     (&[], Ok(Some(2))),
     // No journal is started.
@@ -138,9 +138,9 @@ const FILES: [(&[(usize, u8)], Result<Option<u64>, JournalError>); 17] = [
 fn finds_what_a_file_is(rt: HostRuntime) -> Result<(), Fail> {
     for (changes, want) in &FILES {
         let mut bytes = journal_bytes();
-        for (place, value) in *changes {
-            if *place < 8192 {
-                bytes[*place] = *value;
+        for (offset, value) in *changes {
+            if *offset < 8192 {
+                bytes[*offset] = *value;
             }
         }
         assert_eq!(rt; found_in(rt.alloc(), &bytes)?, *want, "{changes:?}");

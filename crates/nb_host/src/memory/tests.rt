@@ -84,7 +84,7 @@ fn read_gives(
     want: &[u8],
 ) -> Result<bool, NoMemory>
     requires room { asked ≤ 5 }
-    requires place { at + 5 < PLACE_LIMIT }
+    requires offset { at + 5 < PLACE_LIMIT }
     requires number { file ≤ LAST_FILE }
 {
     let mut host = with_bytes(alloc, b"abc")?;
@@ -189,7 +189,7 @@ fn counts_calls(rt: HostRuntime) -> Result<(), Fail> {
 // A write whose file holds the bytes where it passed, and what it held before where it didn't.
 fn writes_or_not(host: &mut MemoryHost, file: u64, bytes: &[u8], before: &[u8]) -> bool
     requires number { file ≤ LAST_FILE }
-    requires place { length bytes.now < PLACE_LIMIT }
+    requires offset { length bytes.now < PLACE_LIMIT }
 {
     if host.write_at(file, 0, bytes).is_ok() {
         host.bytes(file) == bytes

@@ -2,7 +2,7 @@ use Rattle.std.proofs.Common.{refl, sym, ap, subst, ◌∙◌, ◌<◌, ◌≤�
 use Rattle.std.specs.Int.{w64, to_le_bytes}
 use Rattle.std.proofs.lemmas.Bool.{false≢true}
 use Rattle.nb_model.specs.Limits.{most_bodies}
-use Rattle.nb_format.proofs.Places.{u64_at-spells}
+use Rattle.nb_format.proofs.Offsets.{u64_at-spells}
 use Rattle.nb_format.proofs.HeaderBytes.{header_from_fields}
 use Rattle.nb_format.proofs.HeaderRefusals.{unfinished_is, magic_is, count_is, zeros_is}
 use Rattle.nb_format.proofs.header.decode.Goals as goal

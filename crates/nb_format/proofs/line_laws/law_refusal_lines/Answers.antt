@@ -1,111 +1,104 @@
-use Rattle.std.proofs.Common.{refl, codes}
+use Rattle.std.proofs.Common.{ℕ, List, refl, codes}
+use Rattle.nb_format.specs.declared.params_error.ParamsError.{ParamsError}
+use Rattle.nb_format.specs.declared.params_error.ParamsError.TheVariants as params
+use Rattle.nb_format.specs.declared.snap_error.SnapError.{SnapError}
+use Rattle.nb_format.specs.declared.snap_error.SnapError.TheVariants as snap
+use Rattle.nb_format.specs.LineEnds.{IsOneLine}
 use Rattle.nb_format.specs.Lines.{words_text, params_text, snapshot_text, heavy_text, not_started_text, already_text, leg_text, limit_text, there_text, many_text, device_text, damaged_text, memory_text}
+use Rattle.nb_format.specs.RefusalLines.{IsTold, HasParamsLine, HasSnapshotLine, IsRefusalLine, Words, Params, Snapshot, Heavy, NotStarted, Already, OpenLeg, Limit, There, Many, Device, Damaged, Memory}
 use Rattle.nb_format.proofs.SaidLines.{literal, number, word, ends, ends_word, missing-one_line, flawed-one_line}
 use Rattle.nb_format.proofs.line_laws.law_refusal_lines.Goals as goal
 
-pub returns-clause-words : goal.returns-clause-words
+params_line : (error : ParamsError) → HasParamsLine error → IsOneLine (params_text error)
+unfolding params_text
+params_line params.Long _ = ends (literal (codes "nbody: params: longer than 65536 bytes") refl)
+params_line (params.Line n) few = ends (number (literal (codes "nbody: params: line ") refl) n few)
+params_line (params.Twice n) few =
+    ends_word (number (literal (codes "nbody: params: line ") refl) n few) (codes " repeats a name") refl
+params_line (params.Range n) few =
+    ends_word (number (literal (codes "nbody: params: line ") refl) n few) (codes " is out of range") refl
+params_line (params.Missing which) within = missing-one_line which within
+
+snapshot_line : (error : SnapError) → HasSnapshotLine error → IsOneLine (snapshot_text error)
+unfolding snapshot_text
+snapshot_line snap.Short _ = ends (literal (codes "nbody: snapshot: short") refl)
+snapshot_line snap.Unfinished _ = ends (literal (codes "nbody: snapshot: unfinished") refl)
+snapshot_line snap.Magic _ = ends (literal (codes "nbody: snapshot: magic") refl)
+snapshot_line snap.Count _ = ends (literal (codes "nbody: snapshot: count") refl)
+snapshot_line snap.Zeros _ = ends (literal (codes "nbody: snapshot: zeros") refl)
+snapshot_line snap.Length _ = ends (literal (codes "nbody: snapshot: length") refl)
+snapshot_line (snap.IdOrder i) few = flawed-one_line (codes "id order at body ") i refl few
+snapshot_line (snap.Mass i) few = flawed-one_line (codes "mass at body ") i refl few
+snapshot_line (snap.Flag i) few = flawed-one_line (codes "flag at body ") i refl few
+snapshot_line (snap.Place i) few = flawed-one_line (codes "place at body ") i refl few
+snapshot_line (snap.Speed i) few = flawed-one_line (codes "speed at body ") i refl few
+snapshot_line snap.Fault never = absurd never
+snapshot_line snap.NoMemory never = absurd never
+
+words_line : IsOneLine words_text
 unfolding words_text
-returns-clause-words c = ends (literal (codes "nbody: the words are not a command") refl)
+words_line = ends (literal (codes "nbody: the words are not a command") refl)
 
-pub returns-clause-params_long : goal.returns-clause-params_long
-unfolding params_text
-returns-clause-params_long c = ends (literal (codes "nbody: params: longer than 65536 bytes") refl)
-
-pub returns-clause-params_line : goal.returns-clause-params_line
-unfolding params_text
-returns-clause-params_line c = λ n few. ends (number (literal (codes "nbody: params: line ") refl) n few)
-
-pub returns-clause-params_twice : goal.returns-clause-params_twice
-unfolding params_text
-returns-clause-params_twice c = λ n few. ends_word (number (literal (codes "nbody: params: line ") refl) n few) (codes " repeats a name") refl
-
-pub returns-clause-params_range : goal.returns-clause-params_range
-unfolding params_text
-returns-clause-params_range c = λ n few. ends_word (number (literal (codes "nbody: params: line ") refl) n few) (codes " is out of range") refl
-
-pub returns-clause-params_missing : goal.returns-clause-params_missing
-returns-clause-params_missing c = λ which within. missing-one_line which within
-
-pub returns-clause-short : goal.returns-clause-short
-unfolding snapshot_text
-returns-clause-short c = ends (literal (codes "nbody: snapshot: short") refl)
-
-pub returns-clause-unfinished : goal.returns-clause-unfinished
-unfolding snapshot_text
-returns-clause-unfinished c = ends (literal (codes "nbody: snapshot: unfinished") refl)
-
-pub returns-clause-magic : goal.returns-clause-magic
-unfolding snapshot_text
-returns-clause-magic c = ends (literal (codes "nbody: snapshot: magic") refl)
-
-pub returns-clause-count : goal.returns-clause-count
-unfolding snapshot_text
-returns-clause-count c = ends (literal (codes "nbody: snapshot: count") refl)
-
-pub returns-clause-zeros : goal.returns-clause-zeros
-unfolding snapshot_text
-returns-clause-zeros c = ends (literal (codes "nbody: snapshot: zeros") refl)
-
-pub returns-clause-length : goal.returns-clause-length
-unfolding snapshot_text
-returns-clause-length c = ends (literal (codes "nbody: snapshot: length") refl)
-
-pub returns-clause-id_order : goal.returns-clause-id_order
-unfolding snapshot_text
-returns-clause-id_order c = λ i few. flawed-one_line (codes "id order at body ") i refl few
-
-pub returns-clause-mass : goal.returns-clause-mass
-unfolding snapshot_text
-returns-clause-mass c = λ i few. flawed-one_line (codes "mass at body ") i refl few
-
-pub returns-clause-flag : goal.returns-clause-flag
-unfolding snapshot_text
-returns-clause-flag c = λ i few. flawed-one_line (codes "flag at body ") i refl few
-
-pub returns-clause-place : goal.returns-clause-place
-unfolding snapshot_text
-returns-clause-place c = λ i few. flawed-one_line (codes "place at body ") i refl few
-
-pub returns-clause-speed : goal.returns-clause-speed
-unfolding snapshot_text
-returns-clause-speed c = λ i few. flawed-one_line (codes "speed at body ") i refl few
-
-pub returns-clause-heavy : goal.returns-clause-heavy
+heavy_line : (grav mass : ℕ) → IsTold grav → IsTold mass → IsOneLine (heavy_text grav mass)
 unfolding heavy_text
-returns-clause-heavy c = λ grav mass few_grav few_mass. ends_word (number (word (number (literal (codes "nbody: grav ") refl) grav few_grav) (codes " times mass ") refl) mass few_mass) (codes " is not below 2^60") refl
+heavy_line grav mass few_grav few_mass =
+    ends_word (number (word (number (literal (codes "nbody: grav ") refl) grav few_grav) (codes " times mass ") refl) mass few_mass)
+    (codes " is not below 2^60") refl
 
-pub returns-clause-not_started : goal.returns-clause-not_started
+not_started_line : IsOneLine not_started_text
 unfolding not_started_text
-returns-clause-not_started c = ends (literal (codes "nbody: not started") refl)
+not_started_line = ends (literal (codes "nbody: not started") refl)
 
-pub returns-clause-already : goal.returns-clause-already
+already_line : IsOneLine already_text
 unfolding already_text
-returns-clause-already c = ends (literal (codes "nbody: already started") refl)
+already_line = ends (literal (codes "nbody: already started") refl)
 
-pub returns-clause-leg : goal.returns-clause-leg
+leg_line : (target time : ℕ) → IsTold target → IsTold time → IsOneLine (leg_text target time)
 unfolding leg_text
-returns-clause-leg c = λ target time few_target few_time. ends (number (word (number (literal (codes "nbody: the leg to ") refl) target few_target) (codes " is open at time ") refl) time few_time)
+leg_line target time few_target few_time =
+    ends (number (word (number (literal (codes "nbody: the leg to ") refl) target few_target) (codes " is open at time ") refl) time few_time)
 
-pub returns-clause-limit : goal.returns-clause-limit
+limit_line : (ticks : ℕ) → IsTold ticks → IsOneLine (limit_text ticks)
 unfolding limit_text
-returns-clause-limit c = λ ticks few. ends_word (number (literal (codes "nbody: ") refl) ticks few) (codes " ticks are more than 2^40") refl
+limit_line ticks few =
+    ends_word (number (literal (codes "nbody: ") refl) ticks few) (codes " ticks are more than 2^40") refl
 
-pub returns-clause-there : goal.returns-clause-there
+there_line : IsOneLine there_text
 unfolding there_text
-returns-clause-there c = ends (literal (codes "nbody: params or init.nbs is there") refl)
+there_line = ends (literal (codes "nbody: params or init.nbs is there") refl)
 
-pub returns-clause-many : goal.returns-clause-many
+many_line : (count : ℕ) → IsTold count → IsOneLine (many_text count)
 unfolding many_text
-returns-clause-many c = λ count few. ends_word (number (literal (codes "nbody: ") refl) count few) (codes " bodies are more than 4096") refl
+many_line count few =
+    ends_word (number (literal (codes "nbody: ") refl) count few) (codes " bodies are more than 4096") refl
 
-pub returns-clause-device : goal.returns-clause-device
+device_line : IsOneLine device_text
 unfolding device_text
-returns-clause-device c = ends (literal (codes "nbody: a device fault") refl)
+device_line = ends (literal (codes "nbody: a device fault") refl)
 
-pub returns-clause-damaged : goal.returns-clause-damaged
+damaged_line : (file place : ℕ) → IsTold file → IsTold place → IsOneLine (damaged_text file place)
 unfolding damaged_text
-returns-clause-damaged c = λ file place few_file few_place. ends (number (word (number (literal (codes "nbody: damaged file ") refl) file few_file) (codes " at ") refl) place few_place)
+damaged_line file place few_file few_place =
+    ends (number (word (number (literal (codes "nbody: damaged file ") refl) file few_file) (codes " at ") refl) place few_place)
 
-pub returns-clause-memory : goal.returns-clause-memory
+memory_line : IsOneLine memory_text
 unfolding memory_text
-returns-clause-memory c = ends (literal (codes "nbody: no memory") refl)
+memory_line = ends (literal (codes "nbody: no memory") refl)
+
+one_line : (line : List ℕ) → IsRefusalLine line → IsOneLine line
+one_line line Words = words_line
+one_line line (Params error has) = params_line error has
+one_line line (Snapshot error has) = snapshot_line error has
+one_line line (Heavy grav mass few_grav few_mass) = heavy_line grav mass few_grav few_mass
+one_line line NotStarted = not_started_line
+one_line line Already = already_line
+one_line line (OpenLeg target time few_target few_time) = leg_line target time few_target few_time
+one_line line (Limit ticks few) = limit_line ticks few
+one_line line There = there_line
+one_line line (Many count few) = many_line count few
+one_line line Device = device_line
+one_line line (Damaged file place few_file few_place) = damaged_line file place few_file few_place
+one_line line Memory = memory_line
+
+pub returns : goal.returns
+returns c = one_line

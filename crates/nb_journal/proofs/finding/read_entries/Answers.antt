@@ -3,7 +3,7 @@ use Rattle.nb_host.specs.Image.{Image}
 use Rattle.nb_host.specs.Meaning.{asked_of_none}
 use Rattle.nb_host.proofs.Callers.{leads_none, stays_both, stays_contents}
 use Rattle.nb_journal.specs.Counters.{Counters}
-use Rattle.nb_journal.specs.Places.{place_of, page_end}
+use Rattle.nb_journal.specs.Offsets.{offset_of, page_end}
 use Rattle.nb_journal.specs.Reading.{HoldsPage, IsReadTo}
 use Rattle.nb_journal.proofs.Found.{slot_is, read_more, read_all, read_bad, short_found, holds_on, within_on}
 use Rattle.nb_journal.proofs.finding.read_entries.Goals as goal
@@ -25,8 +25,8 @@ entries-preserved g c =
     let more : c.with-journal.result.entries ≡ n + 1 =
     ap (λ (k : Counters). k.entries) c.with-journal.ensures.counters ∙ ap (λ (k : ℕ). k + 1) (sym n_is) in
     let same = stays_contents c.entries.invariant.leads in
-    let within : place_of (page_end n) ≤ c.args.len =
-    c.in-Ok.ensures.within (λ on. subst (λ (k : ℕ). place_of (page_end k) ≤ c.args.len) (sym n_is)
+    let within : offset_of (page_end n) ≤ c.args.len =
+    c.in-Ok.ensures.within (λ on. subst (λ (k : ℕ). offset_of (page_end k) ≤ c.args.len) (sym n_is)
     (c.entries.invariant.within (subst (λ (k : ℕ). k % 128 ≢ 0) n_is on))) in
     let holds : (file : List ℕ) → IsTrue g.H.Host.meaning.tells → (g.H.Host.meaning.contents c.args.host.now).file 2 ≡ file
     → c.args.len ≡ length file → HoldsPage n file c.fill.new.page =
@@ -45,7 +45,7 @@ entries-preserved g c =
           subst (λ (k : ℕ). HoldsPage k file c.fill.new.page) (sym more)
           (holds_on n (subst (λ (k : ℕ). k % 128 ≢ 0) more on) (holds file tells is long));
       within = λ on.
-          subst (λ (k : ℕ). place_of (page_end k) ≤ c.args.len) (sym more)
+          subst (λ (k : ℕ). offset_of (page_end k) ≤ c.args.len) (sym more)
           (within_on n (subst (λ (k : ℕ). k % 128 ≢ 0) more on) within);
       leads = stays_both c.entries.invariant.leads c.in-Ok.ensures.ran.leads;
       faults = search rules;
@@ -58,8 +58,8 @@ entries-smaller g c =
     let n_is : n ≡ c.entries.journal.entries = ap (λ (k : Counters). k.entries) c.journal.view_is in
     let more : c.with-journal.result.entries ≡ n + 1 =
     ap (λ (k : Counters). k.entries) c.with-journal.ensures.counters ∙ ap (λ (k : ℕ). k + 1) (sym n_is) in
-    let within : place_of (page_end n) ≤ c.args.len =
-    c.in-Ok.ensures.within (λ on. subst (λ (k : ℕ). place_of (page_end k) ≤ c.args.len) (sym n_is)
+    let within : offset_of (page_end n) ≤ c.args.len =
+    c.in-Ok.ensures.within (λ on. subst (λ (k : ℕ). offset_of (page_end k) ≤ c.args.len) (sym n_is)
     (c.entries.invariant.within (subst (λ (k : ℕ). k % 128 ≢ 0) n_is on))) in
     omega arith
 
@@ -67,7 +67,7 @@ pub returns-in-Err-clause-found : goal.returns-in-Err-clause-found
 returns-in-Err-clause-found g c = λ file tells is long started read.
     let n_is = ap (λ (k : Counters). k.entries) c.journal.view_is in
     short_found c.journal.inside.entries file c.entries.journal c.args.len c.in-Err.error n_is long started
-    (c.entries.invariant.read file tells is long read) (λ place bad. c.in-Err.ensures.damaged place (cc))
+    (c.entries.invariant.read file tells is long read) (λ offset bad. c.in-Err.ensures.damaged offset (cc))
 
 pub returns-then-not-counts-clause-found : goal.returns-then-not-counts-clause-found
 returns-then-not-counts-clause-found g c = λ file tells is long started read.
@@ -91,7 +91,7 @@ returns-in-None-clause-found g c = λ file tells is long started read.
     c.in-Ok.ensures.held file tells (ap (λ (i : Image). i.file 2) same ∙ is) long
     (λ on. subst (λ (k : ℕ). HoldsPage k file c.entries.page) (sym n_is)
     (c.entries.invariant.held file tells is long (subst (λ (k : ℕ). k % 128 ≢ 0) n_is on))) in
-    read_bad n file c.slot-bytes.result c.entries.journal c.place_of.result n_is started
+    read_bad n file c.slot-bytes.result c.entries.journal c.offset_of.result n_is started
     (c.entries.invariant.read file tells is long read) held.whole c.slot-bytes.ensures.long
     (λ i small. ap (λ (w : List ℕ). slice_index w i) c.slot-bytes.ensures.cut ∙ slot_is n held i small)
-    (c.if-not-counts.ensures.0 refl) (c.in-None.ensures.none refl) c.place_of.ensures
+    (c.if-not-counts.ensures.0 refl) (c.in-None.ensures.none refl) c.offset_of.ensures

@@ -1,7 +1,7 @@
 use Rattle.std.proofs.Common.{length, ap, ◌∙◌, arith, rules, length-take}
 use Rattle.nb_host.specs.Image.{Image, IsPartlyCut}
-use Rattle.nb_host.proofs.Callers.{leads_after, leads_before, stays_contents, becomes_itself, partly_cut_by_nothing}
-use Rattle.nb_journal.proofs.Steps.{syncing_told, long_syncs}
+use Rattle.nb_host.proofs.Callers.{leads_after, leads_before, stays_contents, becomes_itself, partly_cut_by_nothing, syncing_told}
+use Rattle.nb_journal.proofs.Steps.{long_syncs}
 use Rattle.nb_journal.proofs.ready.shorten.Goals as goal
 
 pub returns-in_err-sync-clause-ran : goal.returns-in_err-sync-clause-ran

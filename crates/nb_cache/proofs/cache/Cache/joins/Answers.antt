@@ -29,7 +29,7 @@ returns-clause-joins g c = λ few tells.
     let all = length_overlaid c.args.name.file c.args.self.now.held
     ((g.H.Host.meaning.contents c.args.host.now).file c.args.name.file) c.len.ensures.sound.whole in
     let is = c.in_ok-len.ensures.length tells in
-    let less : c.args.name.page * PAGE_SIZE ≤ c.in_ok-len.len = below (c.args.name.page * 4096) c.in_ok-len.len few in
+    let less : c.args.name.page * PAGE_SIZE ≤ c.in_ok-len.len = below (c.args.name.page * PAGE_SIZE) c.in_ok-len.len few in
     omega (arith, all, is, less)
   where
     below : (a b : ℕ) → IsTrue (leb a b) → a ≤ b

@@ -26,8 +26,8 @@ write_at-requires-clause-number g c =
     let place = c.len.ensures.sound.places (page c.args.name c.in-Some.bytes.now) there in
     omega (arith, place.file.greatest)
 
-pub write_at-requires-clause-place : goal.write_at-requires-clause-place
-write_at-requires-clause-place g c =
+pub write_at-requires-clause-offset : goal.write_at-requires-clause-offset
+write_at-requires-clause-offset g c =
     let there = subst (λ (v : CacheValue). Contains v.held (page c.args.name c.in-Some.bytes.now)) c.self.view_is
     c.in-Some.ensures.held in
     let place = c.len.ensures.sound.places (page c.args.name c.in-Some.bytes.now) there in

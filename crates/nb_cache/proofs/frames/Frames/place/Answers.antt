@@ -2,7 +2,7 @@ use Rattle.std.proofs.Common.{Contains, Some, None, vec_len, vec_capacity, refl,
 use Rattle.lru.specs.LruCache.{LruCache}
 use Rattle.nb_host.specs.declared.page_name.PageName.{PageName}
 use Rattle.nb_cache.specs.Stock.{held_of}
-use Rattle.nb_cache.specs.Sound.{IsSound}
+use Rattle.nb_cache.specs.Sound.{AreResident}
 use Rattle.nb_cache.specs.declared.frame.Frame.{Frame}
 use Rattle.nb_cache.proofs.Counting.{put_frames}
 use Rattle.nb_cache.proofs.Residents.{sound_now, put_names, put_held, put_places}
@@ -54,7 +54,7 @@ returns-in_default-clause-frames c =
 
 pub returns-in-Err-clause-sound : goal.returns-in-Err-clause-sound
 returns-in-Err-clause-sound c =
-    subst (λ (l : LruCache PageName Frame). IsSound l.cap (held_of l.entries)) (sym c.in-Err.ensures.err)
+    subst (λ (l : LruCache PageName Frame). AreResident l.cap (held_of l.entries)) (sym c.in-Err.ensures.err)
     (sound_now c.self.inside.resident 0 0 _ refl c.len.ensures.valid c.self.invariant)
 
 pub invariant_of-self : goal.invariant_of-self

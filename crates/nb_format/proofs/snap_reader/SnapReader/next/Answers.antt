@@ -34,7 +34,7 @@ returns-in_err-body-clause-first g c = λ bytes bodies tells has still.
     record_refused reader bytes bodies _ has reader.few more (ap (record_refusal reader.read reader.last) (sym held) ∙ c.in_err-body.ensures.refusal))
 
 pub returns-in_err-body-clause-shorter : goal.returns-in_err-body-clause-shorter
-returns-in_err-body-clause-shorter g c = λ bytes bodies tells has front.
+returns-in_err-body-clause-shorter g c = λ bytes bodies tells has open'.
     let p = err_from_is_err_and c.from_residual-in_err-body.result c.from_residual-in_err-body.ensures.1 in
     rw (p.1, p.2)
     (λ _.
@@ -43,17 +43,17 @@ returns-in_err-body-clause-shorter g c = λ bytes bodies tells has front.
     let within = reader.within in
     let more : read_count reader < count_of reader = omega (arith, c.if-self.false) in
     let read = c.in_ok-read_whole.ensures.read tells ∙ ap (λ (at : ℕ). take 64 (drop at file)) c.snapshot_length.ensures in
-    let held = front_reads bytes file c.read_whole.new.into (snapshot_length reader.read) front read c.read_whole.auto.into in
+    let held = front_reads bytes file c.read_whole.new.into (snapshot_length reader.read) (open'.reads tells) read c.read_whole.auto.into in
     inl (record_refused reader bytes bodies _ has reader.few more (ap (record_refusal reader.read reader.last) (sym held) ∙ c.in_err-body.ensures.refusal)))
 
 pub returns-clause-body : goal.returns-clause-body
-returns-clause-body g c = λ bytes bodies tells has front.
+returns-clause-body g c = λ bytes bodies tells has open'.
     let reader = c.args.self.now in
     let file = (g.H.Host.meaning.contents c.args.host.now).file reader.file in
     let within = reader.within in
     let more : read_count reader < count_of reader = omega (arith, c.if-self.false) in
     let read = c.in_ok-read_whole.ensures.read tells ∙ ap (λ (at : ℕ). take 64 (drop at file)) c.snapshot_length.ensures in
-    let held = front_reads bytes file c.read_whole.new.into (snapshot_length reader.read) front read c.read_whole.auto.into in
+    let held = front_reads bytes file c.read_whole.new.into (snapshot_length reader.read) (open'.reads tells) read c.read_whole.auto.into in
     read_more reader _ bytes bodies c.in_ok-body.body has c.in_ok-body.ensures.follows
     (record { file = refl; count = refl; time = refl; read = refl; last = refl }) reader.few more (sym held ∙ c.in_ok-body.ensures.spelled)
 

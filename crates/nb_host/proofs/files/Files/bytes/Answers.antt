@@ -3,7 +3,7 @@ use Rattle.std.proofs.Common.{ℕ, ◌<◌, ◌≤◌, length, get_or, ap, sym, 
 use Rattle.std.specs.List.{position_or_len}
 use Rattle.nb_host.specs.Disk.{DiskFile}
 use Rattle.nb_host.specs.Files.{disk_file_of}
-use Rattle.nb_host.proofs.Places.{is_file, found-absent, found-present}
+use Rattle.nb_host.proofs.StoredFiles.{is_file, found-absent, found-present}
 use Rattle.nb_host.proofs.files.Files.bytes.Goals as goal
 
 pub returns-then-index-len : goal.returns-then-index-len

@@ -1,7 +1,7 @@
 -- The file that was found or added is put back as the cut leaves it.
 use Rattle.std.proofs.lemmas.Result.{on_ok_weaker, on_err_weaker}
 use Rattle.nb_host.specs.Disk.{cut_file}
-use Rattle.nb_host.proofs.Places.{found-put_back, found-put_same}
+use Rattle.nb_host.proofs.StoredFiles.{found-put_back, found-put_same}
 use Rattle.nb_host.proofs.files.Files.cut.Goals as goal
 
 pub returns-clause-ok : goal.returns-clause-ok

@@ -2,7 +2,7 @@
 use Rattle.std.proofs.Common.{◌≡◌, List, ◌≤◌, length, ap, ◌∙◌, arith}
 use Rattle.nb_host.specs.Files.{disk_file_of, ready_of, found}
 use Rattle.nb_host.specs.declared.stored_file.StoredFile.{StoredFile}
-use Rattle.nb_host.proofs.Places.{found-done, items_back}
+use Rattle.nb_host.proofs.StoredFiles.{found-done, items_back}
 use Rattle.nb_host.proofs.files.Files.fill.Goals as goal
 
 pub returns : goal.returns

@@ -1,7 +1,7 @@
 -- Each file before the one that is found has another number, and so has each where none is found.
 use Rattle.std.proofs.Common.{List, get_or, arith, eq-eqb, ap, sym, ◌∙◌}
 use Rattle.nb_host.specs.declared.stored_file.StoredFile.{StoredFile}
-use Rattle.nb_host.proofs.Places.{first_is_position, none_is_position}
+use Rattle.nb_host.proofs.StoredFiles.{first_is_position, none_is_position}
 use Rattle.nb_host.proofs.files.Files.find.Goals as goal
 
 pub returns-then-file-number-clause-index : goal.returns-then-file-number-clause-index

@@ -1,6 +1,6 @@
 use Rattle.std.proofs.Common.{◌≡◌, ℕ, ◌<◌, false, get_or}
 use Rattle.nb_host.specs.declared.stored_file.StoredFile.{StoredFile}
-use Rattle.nb_host.proofs.Places.{is_file}
+use Rattle.nb_host.proofs.StoredFiles.{is_file}
 use Rattle.nb_host.proofs.files.Files.find.Given as goal
 
 abbrev pub invariant-loop-index : goal.invariant-loop-index

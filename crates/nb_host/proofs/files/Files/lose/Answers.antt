@@ -4,7 +4,7 @@ use Rattle.nb_host.specs.Disk.{DiskFile, synced_file, left_file}
 use Rattle.nb_host.specs.Files.{disk_file_of, found}
 use Rattle.nb_host.specs.declared.outcome.Outcome.TheVariants.{Lost}
 use Rattle.nb_host.specs.declared.stored_file.StoredFile.{StoredFile}
-use Rattle.nb_host.proofs.Places.{found-done, found-change, items_back}
+use Rattle.nb_host.proofs.StoredFiles.{found-done, found-change, items_back}
 use Rattle.nb_host.proofs.files.Files.lose.Goals as goal
 
 pub returns : goal.returns

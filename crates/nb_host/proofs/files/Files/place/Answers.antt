@@ -1,7 +1,7 @@
 -- The file that was found or added is put back with these bytes.
 use Rattle.std.proofs.Common.{ℕ, List, ap, ◌∙◌, rules}
 use Rattle.nb_host.specs.Disk.{synced_file}
-use Rattle.nb_host.proofs.Places.{found-put_back}
+use Rattle.nb_host.proofs.StoredFiles.{found-put_back}
 use Rattle.nb_host.proofs.files.Files.place.Goals as goal
 
 pub returns-clause-ok : goal.returns-clause-ok

@@ -5,7 +5,7 @@ use Rattle.nb_host.specs.Disk.{DiskFile, synced_file, left_file}
 use Rattle.nb_host.specs.Files.{disk_file_of, ready_of, found}
 use Rattle.nb_host.specs.declared.outcome.Outcome.TheVariants.{Filled}
 use Rattle.nb_host.specs.declared.stored_file.StoredFile.{StoredFile}
-use Rattle.nb_host.proofs.Places.{done_weaken, one_more_done, found-done, found-kept, found-change, filled_synced, items_back}
+use Rattle.nb_host.proofs.StoredFiles.{done_weaken, one_more_done, found-done, found-kept, found-change, filled_synced, items_back}
 use Rattle.nb_host.proofs.files.Files.prepare.Goals as goal
 
 abbrev kept : StoredFile → StoredFile → Type 0

@@ -3,7 +3,7 @@ use Rattle.nb_host.specs.Disk.{synced_file, left_file}
 use Rattle.nb_host.specs.Files.{disk_file_of, ready_of}
 use Rattle.nb_host.specs.declared.outcome.Outcome.TheVariants.{Filled}
 use Rattle.nb_host.specs.declared.stored_file.StoredFile.{StoredFile}
-use Rattle.nb_host.proofs.Places.{IsDone}
+use Rattle.nb_host.proofs.StoredFiles.{IsDone}
 use Rattle.nb_host.proofs.files.Files.prepare.Given as goal
 
 abbrev pub invariant-loop-file : goal.invariant-loop-file

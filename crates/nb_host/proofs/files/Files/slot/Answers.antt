@@ -1,7 +1,7 @@
 use Rattle.std.proofs.Common.{List, ap, ◌∙◌, arith}
 use Rattle.nb_host.specs.Files.{disk_file_of, found}
 use Rattle.nb_host.specs.declared.stored_file.StoredFile.{StoredFile}
-use Rattle.nb_host.proofs.Places.{found-added}
+use Rattle.nb_host.proofs.StoredFiles.{found-added}
 use Rattle.nb_host.proofs.files.Files.slot.Goals as goal
 
 pub returns-in_ok-push-clause-same : goal.returns-in_ok-push-clause-same

@@ -2,7 +2,7 @@ use Rattle.std.proofs.Common.{◌≡◌}
 use Rattle.nb_host.specs.Disk.{synced_file}
 use Rattle.nb_host.specs.Files.{disk_file_of}
 use Rattle.nb_host.specs.declared.stored_file.StoredFile.{StoredFile}
-use Rattle.nb_host.proofs.Places.{IsDone}
+use Rattle.nb_host.proofs.StoredFiles.{IsDone}
 use Rattle.nb_host.proofs.files.Files.sync.Given as goal
 
 abbrev pub invariant-loop-file : goal.invariant-loop-file

@@ -1,5 +1,5 @@
 -- What reads of a file that wasn't changed is all that a crash may leave of it.
-use Rattle.nb_host.proofs.Places.{ready_unchanged}
+use Rattle.nb_host.proofs.StoredFiles.{ready_unchanged}
 use Rattle.nb_host.proofs.stored_file.StoredFile.prepare.Goals as goal
 
 pub returns-in_default-clause-ok : goal.returns-in_default-clause-ok

@@ -1,7 +1,7 @@
 use Rattle.std.proofs.Common.{◌≡◌, length, ap, subst, arith, rules}
 use Rattle.nb_host.proofs.Callers.{leads_after, stays_after}
 use Rattle.nb_journal.specs.Counters.{Counters}
-use Rattle.nb_journal.specs.Entries.{IsNext}
+use Rattle.nb_journal.specs.Entries.{IsNextEntry}
 use Rattle.nb_journal.proofs.Appending.{append_lays, append_opens, append_adds, append_leads, laying_leads}
 use Rattle.nb_journal.proofs.journal.Journal.append.Goals as goal
 
@@ -45,14 +45,14 @@ pub returns-in_err-open_gate-clause-images : goal.returns-in_err-open_gate-claus
 returns-in_err-open_gate-clause-images g c = λ log answers ready.
     let count : c.self.inside.entries ≡ length log.entries =
     omega (arith, ap (λ (k : Counters). k.entries) answers, ap (λ (k : Counters). k.entries) c.self.view_is) in
-    append_opens g.H.Host.meaning log c.args.entry count c.place_of.ensures
-    (subst (λ (k : Counters). IsNext k.count k.progress c.args.entry) answers c.requires.next) ready
+    append_opens g.H.Host.meaning log c.args.entry count c.offset_of.ensures
+    (subst (λ (k : Counters). IsNextEntry k.count k.progress c.args.entry) answers c.requires.next) ready
     c.in_ok-lay.ensures.ran.leads c.in_ok-sync.ensures.ran.leads c.in_ok-sync.ensures.durable c.in_ok-lay.ensures.laid
     c.in_err-open_gate.ensures.ran.leads.images
 
 pub returns-in_err-open_gate-clause-ran : goal.returns-in_err-open_gate-clause-ran
 returns-in_err-open_gate-clause-ran g c = record {
-  leads = append_leads c.self.inside.entries _ (ap (λ (k : Counters). k.entries) c.self.view_is) c.place_of.ensures
+  leads = append_leads c.self.inside.entries _ (ap (λ (k : Counters). k.entries) c.self.view_is) c.offset_of.ensures
       c.in_ok-lay.ensures.ran.leads c.in_ok-sync.ensures.ran.leads c.in_err-open_gate.ensures.ran.leads;
   count = search rules;
   rose = search rules;
@@ -66,8 +66,8 @@ pub returns-clause-added : goal.returns-clause-added
 returns-clause-added g c = λ log answers tells clean.
     let count : c.self.inside.entries ≡ length log.entries =
     omega (arith, ap (λ (k : Counters). k.entries) answers, ap (λ (k : Counters). k.entries) c.self.view_is) in
-    append_adds g.H.Host.meaning log c.args.entry count c.place_of.ensures
-    (subst (λ (k : Counters). IsNext k.count k.progress c.args.entry) answers c.requires.next) tells clean
+    append_adds g.H.Host.meaning log c.args.entry count c.offset_of.ensures
+    (subst (λ (k : Counters). IsNextEntry k.count k.progress c.args.entry) answers c.requires.next) tells clean
     c.in_ok-lay.ensures.ran.leads c.in_ok-sync.ensures.ran.leads c.in_ok-lay.ensures.laid
     (c.in_ok-open_gate.ensures.opened tells)
 
@@ -75,14 +75,14 @@ pub returns-clause-images : goal.returns-clause-images
 returns-clause-images g c = λ log answers ready.
     let count : c.self.inside.entries ≡ length log.entries =
     omega (arith, ap (λ (k : Counters). k.entries) answers, ap (λ (k : Counters). k.entries) c.self.view_is) in
-    append_opens g.H.Host.meaning log c.args.entry count c.place_of.ensures
-    (subst (λ (k : Counters). IsNext k.count k.progress c.args.entry) answers c.requires.next) ready
+    append_opens g.H.Host.meaning log c.args.entry count c.offset_of.ensures
+    (subst (λ (k : Counters). IsNextEntry k.count k.progress c.args.entry) answers c.requires.next) ready
     c.in_ok-lay.ensures.ran.leads c.in_ok-sync.ensures.ran.leads c.in_ok-sync.ensures.durable c.in_ok-lay.ensures.laid
     c.in_ok-open_gate.ensures.ran.leads.images
 
 pub returns-clause-ran : goal.returns-clause-ran
 returns-clause-ran g c = record {
-  leads = append_leads c.self.inside.entries _ (ap (λ (k : Counters). k.entries) c.self.view_is) c.place_of.ensures
+  leads = append_leads c.self.inside.entries _ (ap (λ (k : Counters). k.entries) c.self.view_is) c.offset_of.ensures
       c.in_ok-lay.ensures.ran.leads c.in_ok-sync.ensures.ran.leads c.in_ok-open_gate.ensures.ran.leads;
   count = search rules;
   rose = search rules;

@@ -14,7 +14,7 @@ use Rattle.nb_host.specs.declared.stored_file.StoredFile.{StoredFile}
 use Rattle.nb_host.specs.declared.stored_file.Changes.{Changes}
 
 abbrev has : ℕ → Span → Bool
-has place span = nat_le span.from place && nat_lt place span.end
+has offset span = nat_le span.from offset && nat_lt offset span.end
 
 or_swap : (a b : Bool) → (a || b) ≡ (b || a)
 or_swap true true = refl
@@ -23,14 +23,14 @@ or_swap false true = refl
 or_swap false false = refl
 
 -- the order of the ranges doesn't matter
-pub unsynced_reversed : (spans : List Span) (place : ℕ)
-    → is_unsynced (reverse spans) place ≡ is_unsynced spans place
-unsynced_reversed [] place = refl
-unsynced_reversed (span ∷ spans) place =
-    ap (λ (all : List Span). is_unsynced all place) (reverse-append (span ∷ []) spans)
-    ∙ or_push (λ (all : List Span). is_unsynced all place) (has place) refl (λ first rest. refl) (reverse spans) span
-    ∙ ap (λ (b : Bool). b || has place span) (unsynced_reversed spans place)
-    ∙ or_swap (is_unsynced spans place) (has place span)
+pub unsynced_reversed : (spans : List Span) (offset : ℕ)
+    → is_unsynced (reverse spans) offset ≡ is_unsynced spans offset
+unsynced_reversed [] offset = refl
+unsynced_reversed (span ∷ spans) offset =
+    ap (λ (all : List Span). is_unsynced all offset) (reverse-append (span ∷ []) spans)
+    ∙ or_push (λ (all : List Span). is_unsynced all offset) (has offset) refl (λ first rest. refl) (reverse spans) span
+    ∙ ap (λ (b : Bool). b || has offset span) (unsynced_reversed spans offset)
+    ∙ or_swap (is_unsynced spans offset) (has offset span)
 
 -- a file that wasn't changed since it was synced is filled already
 pub filled_synced : (filler : ℕ) (bytes : List ℕ) → left_file (Filled filler) (synced_file bytes) ≡ bytes
@@ -38,8 +38,8 @@ filled_synced filler bytes =
     let file = synced_file bytes in
     let counts = length-map-range_with_len (filled_byte filler file) 0 (length bytes) in
     ext_get_or 0 (left_file (Filled filler) file) bytes counts
-    (λ place within.
-    get_or-map-range_with_len (filled_byte filler file) 0 (length bytes) place place 0 (omega (arith, counts))
+    (λ offset within.
+    get_or-map-range_with_len (filled_byte filler file) 0 (length bytes) offset offset 0 (omega (arith, counts))
     (omega arith))
 
 pub ready_unchanged : (filler : ℕ) (bytes : List ℕ) (changes : Option Changes) → changes ≡ None

@@ -26,8 +26,8 @@ abbrev pub entry_gate : ℕ
 entry_gate = 71
 
 -- where entry n stands, counted from 0
-abbrev pub place_of : ℕ → ℕ
-place_of n = page_length + entry_length * n
+abbrev pub offset_of : ℕ → ℕ
+offset_of n = page_length + entry_length * n
 
 -- the number of the first entry behind the page of entry n
 abbrev pub page_end : ℕ → ℕ
