@@ -1,7 +1,7 @@
 //! One tick of a list of bodies, forward or back: a half kick, a whole drift, a half kick.
 
-ghost use Rattle.std.specs.Prelude.{◌≡◌, ◌*◌, ◌<◌, ◌≤◌, length, All, IfOk, OnOk, OnErr, true, if◌then◌else◌};
-ghost use Rattle.nb_model.specs.Limits.{gm_limit, speed_limit, most_bodies};
+ghost use Rattle.std.specs.Prelude.{◌≡◌, ◌*◌, ◌<◌, ◌≤◌, length, All, IfOk, OnOk, OnErr, true, false, if◌then◌else◌};
+ghost use Rattle.nb_model.specs.Limits.{gm_limit, kick_limit, speed_limit, most_bodies};
 ghost use Rattle.nb_model.specs.Vector.{zero_vector};
 ghost use Rattle.nb_model.specs.Gravity.{force_on};
 ghost use Rattle.nb_model.specs.Octree.{total_mass};
@@ -39,6 +39,19 @@ fn changed(way: Way, vector: V3, change: V3) -> V3
     }
 }
 
+/// A body in the box after a half kick, in box units a tick: forward it gains it, and back it loses it.
+pub fn accelerate(way: Way, kick: &V3, body: Body) -> Body
+    requires body { IsValidBody body }
+    requires present { body.out ≡ false }
+    requires kick { IsBelow kick_limit kick.now }
+    ensures { result ≡ accelerate way kick.now body }
+{
+    Body {
+        v: changed(way, body.v, *kick),
+        ..body
+    }
+}
+
 /// A body of a valid list after its half kick, where `inside` are the list's bodies in the box.
 fn kicked_body(
     alloc: Global,
@@ -59,10 +72,7 @@ fn kicked_body(
         return Ok(body);
     }
     let force = force_on(alloc, params, &body.at, 0, inside)?;
-    Ok(Body {
-        v: changed(way, body.v, force),
-        ..body
-    })
+    Ok(accelerate(way, &force, body))
 }
 
 /// The bodies of a valid list after their half kicks.
@@ -160,8 +170,8 @@ fn drift_of(way: Way, v: V3) -> V3
     }
 }
 
-/// A body after its drift: moved, or out where the drift leads nowhere in the box.
-fn drift_body(params: &Params, way: Way, body: Body) -> Body
+/// A body after its drift: moved, or out where the drift leads nowhere in the box. One that is out stays.
+pub fn drift_body(params: &Params, way: Way, body: Body) -> Body
     requires { IsKickedBody body }
     ensures { result ≡ drift_body params.now way body }
 {

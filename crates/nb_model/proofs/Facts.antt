@@ -1,7 +1,7 @@
 -- What other crates may cite of the proofs here: the other files are this crate's own.
 pub use Rattle.nb_model.proofs.Roots.{integer_root_bounds, below_from_squares, is_integer_root, integer_root_is, le-integer_root, integer_root-lt}
 pub use Rattle.nb_model.proofs.Quotients.{pull_along-pos, pull_along-neg, quotient_bound, pull_size-floor, pull_size-next}
-pub use Rattle.nb_model.proofs.Vectors.{same_vector, same_position, IsAtMost, vector_sum_more}
+pub use Rattle.nb_model.proofs.Vectors.{same_vector, same_position, IsAtMost, IsBelow-from_most, vector_sum_more}
 pub use Rattle.nb_model.proofs.Wrapping.{IsRemainder, is_remainder, remainder_within, remainder_above, remainder_below}
 pub use Rattle.nb_model.proofs.Pulls.{square_x-le, square_y-le, square_z-le, pull_bound, pull_too_far}
 pub use Rattle.nb_model.proofs.Sums.{map_agree, sum_by_agree, sum_by-plus, sum_by-times, sum_by-map, sum_by-filter-le, length-filter-le, sum_by-filter-cons, filter-map}
