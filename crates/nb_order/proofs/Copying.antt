@@ -9,7 +9,7 @@ use Rattle.nb_record.specs.Records.{kick_of}
 use Rattle.nb_record.specs.Writing.{IsZeroPaddedFile}
 use Rattle.nb_record.specs.Order.{record_of, HoldsBodies}
 use Rattle.nb_order.specs.Files.{IsPushed}
-use Rattle.nb_order.specs.Places.{AreNumbersOf, IsCopyOf}
+use Rattle.nb_order.specs.Indexes.{AreIndexesOf, IsCopyOf}
 use Rattle.nb_order.proofs.Pushing.{kicks_pushed}
 
 -- an empty file holds no body
@@ -30,9 +30,9 @@ pub record IsCopied (from : List ℕ) (bodies list : List Body) (count : ℕ) (n
   pub all : list ≡ copied ++ others
   pub many : length copied ≡ count
   pub copy : IsCopyOf from bodies file copied
-  pub numbered : AreNumbersOf bodies numbers others
+  pub numbered : AreIndexesOf bodies numbers others
 
-pub copied_none : (from : List ℕ) (bodies list : List Body) (numbers : List ℕ) (file : List ℕ) → file ≡ [] → AreNumbersOf bodies numbers list
+pub copied_none : (from : List ℕ) (bodies list : List Body) (numbers : List ℕ) (file : List ℕ) → file ≡ [] → AreIndexesOf bodies numbers list
     → IsCopied from bodies list 0 numbers file
 copied_none from bodies list numbers file is numbered = record {
   copied = [];
@@ -50,7 +50,7 @@ copied_none from bodies list numbers file is numbered = record {
   none_at j b at = let within = slice_get_within [] j b at in omega arith
 
 -- the next body of a list that isn't copied whole
-pub record IsNext (from : List ℕ) (bodies list : List Body) (count index : ℕ) (numbers : List ℕ) (file : List ℕ) : Type 0 where
+pub record IsNextCopied (from : List ℕ) (bodies list : List Body) (count index : ℕ) (numbers : List ℕ) (file : List ℕ) : Type 0 where
   pub copied : List Body
   pub body : Body
   pub others : List Body
@@ -58,14 +58,14 @@ pub record IsNext (from : List ℕ) (bodies list : List Body) (count index : ℕ
   pub many : length copied ≡ count
   pub copy : IsCopyOf from bodies file copied
   pub there : slice_get bodies index ≡ Some body
-  pub numbered : AreNumbersOf bodies numbers others
+  pub numbered : AreIndexesOf bodies numbers others
 
 pub copied_next : (from : List ℕ) (bodies list : List Body) (count index : ℕ) (numbers rest : List ℕ) (file : List ℕ) → numbers ≡ index ∷ rest
-    → IsCopied from bodies list count numbers file → IsNext from bodies list count index rest file
+    → IsCopied from bodies list count numbers file → IsNextCopied from bodies list count index rest file
 copied_next from bodies list count index numbers rest file is so_far =
-    next so_far.others so_far.all (subst (λ l. AreNumbersOf bodies l so_far.others) is so_far.numbered) where
-      next : (others : List Body) → list ≡ so_far.copied ++ others → AreNumbersOf bodies (index ∷ rest) others
-          → IsNext from bodies list count index rest file
+    next so_far.others so_far.all (subst (λ l. AreIndexesOf bodies l so_far.others) is so_far.numbered) where
+      next : (others : List Body) → list ≡ so_far.copied ++ others → AreIndexesOf bodies (index ∷ rest) others
+          → IsNextCopied from bodies list count index rest file
       next [] all left = absurd left
       next (b ∷ bs) all left = record {
         copied = so_far.copied;
@@ -89,7 +89,7 @@ copy_more from file after bodies copied body kick index copy there is pushed = r
 }
 
 pub copied_more : (from : List ℕ) (bodies list : List Body) (count index : ℕ) (rest : List ℕ) (file after : List ℕ)
-    → (next : IsNext from bodies list count index rest file) → IsCopyOf from bodies after (next.copied ++ next.body ∷ [])
+    → (next : IsNextCopied from bodies list count index rest file) → IsCopyOf from bodies after (next.copied ++ next.body ∷ [])
     → IsCopied from bodies list (count + 1) rest after
 copied_more from bodies list count index rest file after next copy = record {
   copied = next.copied ++ next.body ∷ [];
@@ -104,6 +104,6 @@ copied_more from bodies list count index rest file after next copy = record {
 pub copied_all : (from : List ℕ) (bodies list : List Body) (count : ℕ) (file : List ℕ) → IsCopied from bodies list count [] file
     → IsCopyOf from bodies file list
 copied_all from bodies list count file is = whole is.others is.all is.numbered where
-  whole : (others : List Body) → list ≡ is.copied ++ others → AreNumbersOf bodies [] others → IsCopyOf from bodies file list
+  whole : (others : List Body) → list ≡ is.copied ++ others → AreIndexesOf bodies [] others → IsCopyOf from bodies file list
   whole [] all left = subst (IsCopyOf from bodies file) (sym (all ∙ append-nil is.copied)) is.copy
   whole (b ∷ bs) all left = absurd left

@@ -17,7 +17,7 @@ use Rattle.nb_record.specs.Records.{body_record, body_of, kick_of, bodies_of, Is
 use Rattle.nb_record.specs.Writing.{IsZeroPadded, IsZeroPaddedFile}
 use Rattle.nb_record.proofs.Callers.{length-bodies_of, body_at}
 use Rattle.nb_order.specs.Files.{IsPushed}
-use Rattle.nb_order.specs.Places.{HasKicks}
+use Rattle.nb_order.specs.Indexes.{HasKicks}
 
 -- The page of body j with this body, and this kick, as its last one. The page's other records are those of the file.
 pub record IsNextPage (file : List ℕ) (j : ℕ) (page : List ℕ) (body : Body) (kick : V3) : Type 0 where

@@ -18,7 +18,7 @@ use Rattle.nb_record.specs.Pages.{page_number, page_count, page_next, read_body_
 use Rattle.nb_record.specs.Records.{body_record, body_of, kick_of, IsBodyRecord}
 use Rattle.nb_record.proofs.Callers.{page_within, index_within}
 use Rattle.nb_order.specs.Files.{page_of_body, HasBody, HasRoomFor, IsBodyAt, IsUnsortable}
-use Rattle.nb_order.specs.Places.{HasFirst}
+use Rattle.nb_order.specs.Indexes.{HasFirst}
 use Rattle.nb_order.specs.Refusals.{IsNoBody, HasNoRoom}
 use Rattle.nb_order.proofs.Pushing.{pushed_before, pushed_here}
 

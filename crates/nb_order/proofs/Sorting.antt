@@ -20,7 +20,7 @@ use Rattle.nb_record.proofs.Callers.{permuted, only}
 use Rattle.nb_record.specs.Records.{body_of}
 use Rattle.nb_record.specs.Order.{record_of}
 use Rattle.nb_order.specs.Files.{HasBody, IsDouble}
-use Rattle.nb_order.specs.Places.{IsEntryOf, AreFirstPlaces, AreNumbersOf, AreReadTo, HasFirst}
+use Rattle.nb_order.specs.Indexes.{IsIndexEntry, AreFirstIndexes, AreIndexesOf, AreReadTo, HasFirst}
 use Rattle.nb_order.proofs.Reading.{first_of, length-first_of, first_of-at, has_first}
 
 -- ---- the order of two keys
@@ -92,12 +92,12 @@ module _ (rank : Body → ℕ) where
 
   module _ (bodies : List Body) (b : Body) (n : ℕ) (at : slice_get bodies n ≡ Some b) where
     abbrev Entries : List ((ℕ × ℕ) × ℕ) → List Body → Type 0
-    Entries es cs = AllZip (IsEntryOf rank bodies) es cs
+    Entries es cs = AllZip (IsIndexEntry rank bodies) es cs
 
     abbrev entry : (ℕ × ℕ) × ℕ
     entry = (key_of b, n)
 
-    own : IsEntryOf rank bodies entry b
+    own : IsIndexEntry rank bodies entry b
     own = record { key = refl; number = at }
 
     inserted_by : (o : Ordering) (e : (ℕ × ℕ) × ℕ) (es : List ((ℕ × ℕ) × ℕ)) (c : Body) (cs : List Body)
@@ -130,9 +130,9 @@ module _ (rank : Body → ℕ) where
     -- a body of the list with the body's rank and id, and with a number below the body's
     pub record IsDoubled : Type 0 where
       pub other : Body
-      pub place : ℕ
-      pub below : place < n
-      pub there : slice_get bodies place ≡ Some other
+      pub index : ℕ
+      pub below : index < n
+      pub there : slice_get bodies index ≡ Some other
       pub ranks : rank other ≡ rank b
       pub same : other.id ≡ b.id
 
@@ -144,7 +144,7 @@ module _ (rank : Body → ℕ) where
         rest (ap (λ o. cond (is_eq o) (Some e.1) (lookup (is_at (key_order (key_of b))) es)) (sym is) ∙ found)
     double_by Equal e es c cs v all numbers found is rest = record {
       other = c;
-      place = e.1;
+      index = e.1;
       below = numbers 0 0 (omega arith);
       there = all.0.number;
       ranks = sym (same_rank b c (ap (key_order (key_of b)) (sym all.0.key) ∙ is));
@@ -161,7 +161,7 @@ module _ (rank : Body → ℕ) where
         double_by (key_order (key_of b) e.0) e es c cs v all numbers found refl
         (λ later. double es cs v all.1 (All-tail (λ number. number < n) e.1 (values_of es) numbers) later)
 
-    pub doubled : (es : List ((ℕ × ℕ) × ℕ)) (key : ℕ × ℕ) (v : ℕ) → key ≡ key_of b → AreFirstPlaces rank bodies n es
+    pub doubled : (es : List ((ℕ × ℕ) × ℕ)) (key : ℕ × ℕ) (v : ℕ) → key ≡ key_of b → AreFirstIndexes rank bodies n es
         → All (λ number. number < n) (values_of es) → Some v ≡ lookup (is_at (key_order key)) es → IsDoubled
     doubled es key v is_key all numbers found =
         double es (sorted_by rank (take n bodies)) v all numbers
@@ -169,7 +169,7 @@ module _ (rank : Body → ℕ) where
 
   -- ---- the order of the entries is that of the bodies
 
-  ordered : (bodies : List Body) (es : List ((ℕ × ℕ) × ℕ)) (cs : List Body) → AllZip (IsEntryOf rank bodies) es cs
+  ordered : (bodies : List Body) (es : List ((ℕ × ℕ) × ℕ)) (cs : List Body) → AllZip (IsIndexEntry rank bodies) es cs
       → IsStrictlySortedBy key_order (keys_of es) → IsSortedByRank rank cs
   ordered bodies [] [] all rising = tt
   ordered bodies [] (c ∷ cs) all rising = absurd all
@@ -191,18 +191,18 @@ module _ (rank : Body → ℕ) where
   unfolding sorted_by
   sorted_none = refl
 
-  -- the places of one more body
-  pub places_more : (bodies : List Body) (b : Body) (n : ℕ) (es fs : List ((ℕ × ℕ) × ℕ)) (key : ℕ × ℕ)
-      → slice_get bodies n ≡ Some b → key ≡ key_of b → AreFirstPlaces rank bodies n es
+  -- the indexes of one more body
+  pub indexes_more : (bodies : List Body) (b : Body) (n : ℕ) (es fs : List ((ℕ × ℕ) × ℕ)) (key : ℕ × ℕ)
+      → slice_get bodies n ≡ Some b → key ≡ key_of b → AreFirstIndexes rank bodies n es
       → None ≡ lookup (is_at (key_order key)) es → fs ≡ insert_entry key_order es key n
-      → IsStrictlySortedBy key_order (keys_of fs) → AreFirstPlaces rank bodies (n + 1) fs
-  places_more bodies b n es fs key at is_key all none is rising =
+      → IsStrictlySortedBy key_order (keys_of fs) → AreFirstIndexes rank bodies (n + 1) fs
+  indexes_more bodies b n es fs key at is_key all none is rising =
       let front = take n bodies in
       let list = insert_by rank b (sorted_by rank front) in
       let lacks : lookup (is_at (key_order (key_of b))) es ≡ None =
       sym (subst (λ k. None ≡ lookup (is_at (key_order k)) es) is_key none) in
-      let entries : AllZip (IsEntryOf rank bodies) fs list =
-      subst (λ l. AllZip (IsEntryOf rank bodies) l list) (sym (is ∙ ap (λ k. insert_entry key_order es k n) is_key))
+      let entries : AllZip (IsIndexEntry rank bodies) fs list =
+      subst (λ l. AllZip (IsIndexEntry rank bodies) l list) (sym (is ∙ ap (λ k. insert_entry key_order es k n) is_key))
       (inserted bodies b n at es (sorted_by rank front) all lacks) in
       let same : IsPermutation (front ++ b ∷ []) list =
       IsPermutation-push_more front front list b (IsPermutation-refl front)
@@ -210,38 +210,38 @@ module _ (rank : Body → ℕ) where
       let more : take (n + 1) bodies ≡ front ++ b ∷ [] =
       take_more bodies n b (slice_get_within bodies n b at)
       ∙ ap (λ c. front ++ c ∷ []) (get_or_from_slice_get bodies n b b at) in
-      subst (λ l. AllZip (IsEntryOf rank bodies) fs l)
+      subst (λ l. AllZip (IsIndexEntry rank bodies) fs l)
       (only rank (front ++ b ∷ []) list same (ordered bodies fs list entries rising) ∙ ap (sorted_by rank) (sym more)) entries
 
-  -- the places of no body, and of all
-  pub places_none : (bodies : List Body) (es : List ((ℕ × ℕ) × ℕ)) → es ≡ [] → AreFirstPlaces rank bodies 0 es
-  places_none bodies es is =
-      subst (λ l. AllZip (IsEntryOf rank bodies) l (sorted_by rank [])) (sym is)
-      (subst (AllZip (IsEntryOf rank bodies) []) (sym sorted_none) tt)
+  -- the indexes of no body, and of all
+  pub indexes_none : (bodies : List Body) (es : List ((ℕ × ℕ) × ℕ)) → es ≡ [] → AreFirstIndexes rank bodies 0 es
+  indexes_none bodies es is =
+      subst (λ l. AllZip (IsIndexEntry rank bodies) l (sorted_by rank [])) (sym is)
+      (subst (AllZip (IsIndexEntry rank bodies) []) (sym sorted_none) tt)
 
-  numbers_of : (bodies : List Body) (es : List ((ℕ × ℕ) × ℕ)) (cs : List Body) → AllZip (IsEntryOf rank bodies) es cs
-      → AreNumbersOf bodies (values_of es) cs
+  numbers_of : (bodies : List Body) (es : List ((ℕ × ℕ) × ℕ)) (cs : List Body) → AllZip (IsIndexEntry rank bodies) es cs
+      → AreIndexesOf bodies (values_of es) cs
   numbers_of bodies [] [] all = tt
   numbers_of bodies [] (c ∷ cs) all = absurd all
   numbers_of bodies (e ∷ es) [] all = absurd all
   numbers_of bodies (e ∷ es) (c ∷ cs) all = (all.0.number, numbers_of bodies es cs all.1)
 
-  pub places_all : (bodies : List Body) (n : ℕ) (es : List ((ℕ × ℕ) × ℕ)) → length bodies ≤ n
-      → AreFirstPlaces rank bodies n es → AreNumbersOf bodies (values_of es) (sorted_by rank bodies)
-  places_all bodies n es within all =
+  pub indexes_all : (bodies : List Body) (n : ℕ) (es : List ((ℕ × ℕ) × ℕ)) → length bodies ≤ n
+      → AreFirstIndexes rank bodies n es → AreIndexesOf bodies (values_of es) (sorted_by rank bodies)
+  indexes_all bodies n es within all =
       numbers_of bodies es (sorted_by rank bodies)
-      (subst (λ l. AllZip (IsEntryOf rank bodies) es (sorted_by rank l)) (take_all n bodies within) all)
+      (subst (λ l. AllZip (IsIndexEntry rank bodies) es (sorted_by rank l)) (take_all n bodies within) all)
 
--- ---- places read from a file
+-- ---- indexes read from a file
 
--- no place yet
+-- no index yet
 pub read_none : (rank : Body → ℕ) (file : List ℕ) (es : List ((ℕ × ℕ) × ℕ)) → es ≡ [] → AreReadTo rank file 0 es
 read_none rank file es is = record {
   has = λ j below. absurd (omega arith);
-  places = λ bodies first within. places_none rank bodies es is;
+  indexes = λ bodies first within. indexes_none rank bodies es is;
 }
 
--- the place of one body more
+-- the index of one body more
 pub read_more : (rank : Body → ℕ) (file : List ℕ) (b : Body) (n : ℕ) (es fs : List ((ℕ × ℕ) × ℕ)) (key : ℕ × ℕ)
     → HasBody file n → b ≡ body_of (record_of file n) → key ≡ (rank b, b.id) → AreReadTo rank file n es
     → None ≡ lookup (is_at (key_order key)) es → fs ≡ insert_entry key_order es key n
@@ -251,13 +251,13 @@ read_more rank file b n es fs key here is is_key all none added rising = record 
     | inl before ↦ all.has j before
     | inr behind ↦ let same : n ≡ j = omega arith in subst (HasBody file) same here
   ];
-  places = λ bodies first within.
+  indexes = λ bodies first within.
       let inside : n < length bodies = omega arith in
-      places_more rank bodies b n es fs key (first.held n inside ∙ ap Some (sym is)) is_key
-      (all.places bodies first (omega arith)) none added rising;
+      indexes_more rank bodies b n es fs key (first.held n inside ∙ ap Some (sym is)) is_key
+      (all.indexes bodies first (omega arith)) none added rising;
 }
 
--- a body whose rank and id stand among the places
+-- a body whose rank and id stand among the indexes
 pub read_double : (rank : Body → ℕ) (file : List ℕ) (b : Body) (n : ℕ) (es : List ((ℕ × ℕ) × ℕ)) (key : ℕ × ℕ) (v : ℕ)
     → HasBody file n → b ≡ body_of (record_of file n) → key ≡ (rank b, b.id) → AreReadTo rank file n es
     → All (λ number. number < n) (values_of es) → Some v ≡ lookup (is_at (key_order key)) es → IsDouble rank file n
@@ -270,12 +270,12 @@ read_double rank file b n es key v here is is_key all numbers found =
     let first = has_first file (n + 1) each in
     let long = length-first_of file (n + 1) in
     let at : slice_get bodies n ≡ Some b = first_of-at file (n + 1) n (omega arith) ∙ ap Some (sym is) in
-    let one = doubled rank bodies b n at es key v is_key (all.places bodies first (omega arith)) numbers found in
+    let one = doubled rank bodies b n at es key v is_key (all.indexes bodies first (omega arith)) numbers found in
     let below = one.below in
-    let same : one.other ≡ body_of (record_of file one.place) =
-    same_Some one.other (body_of (record_of file one.place)) (sym one.there ∙ first_of-at file (n + 1) one.place (omega arith)) in
+    let same : one.other ≡ body_of (record_of file one.index) =
+    same_Some one.other (body_of (record_of file one.index)) (sym one.there ∙ first_of-at file (n + 1) one.index (omega arith)) in
     record {
-      earlier = one.place;
+      earlier = one.index;
       before = one.below;
       same_rank = ap rank (sym same) ∙ one.ranks ∙ ap rank is;
       same_id = ap (λ (c : Body). c.id) (sym same) ∙ one.same ∙ ap (λ (c : Body). c.id) is;
@@ -283,6 +283,6 @@ read_double rank file b n es key v here is is_key all numbers found =
 
 -- the numbers of a file's first bodies, in order
 pub read_numbers : (rank : Body → ℕ) (file : List ℕ) (n : ℕ) (es : List ((ℕ × ℕ) × ℕ)) (bodies : List Body)
-    → AreReadTo rank file n es → HasFirst file bodies → length bodies ≡ n → AreNumbersOf bodies (values_of es) (sorted_by rank bodies)
+    → AreReadTo rank file n es → HasFirst file bodies → length bodies ≡ n → AreIndexesOf bodies (values_of es) (sorted_by rank bodies)
 read_numbers rank file n es bodies all first long =
-    places_all rank bodies n es (omega arith) (all.places bodies first (omega arith))
+    indexes_all rank bodies n es (omega arith) (all.indexes bodies first (omega arith))

@@ -1,4 +1,4 @@
 pub mod Errors
 pub mod Files
-pub mod Places
+pub mod Indexes
 pub mod Refusals

@@ -25,15 +25,17 @@ use nb_host::{Host, PAGE_SIZE, PageName};
 use nb_model::{Body, V3};
 use nb_record::{BODIES_PER_PAGE, BODY_SIZE, BodyPage, add_body, begin_body_page};
 
-/// A body of a file and its kick, in box units a tick.
+/// A body and its half kick.
 #[derive(Clone, Copy, PartialEq, Eq, Debug)]
-pub(crate) struct KickedBody {
-    pub(crate) body: Body,
-    pub(crate) kick: V3,
+pub struct KickedBody {
+    /// The body.
+    pub body: Body,
+    /// The half kick, in box units a tick.
+    pub kick: V3,
 }
 
 /// The page of a file on which the body of this number stands, counted from 0.
-pub(crate) fn page_name(file: u64, index: u64) -> PageName
+pub fn page_name(file: u64, index: u64) -> PageName
     ensures value { result ≡ page_of_body file index }
     ensures cacheable { IsCachedFile file → index ≤ most_bodies → IsCacheable result }
 {
@@ -95,7 +97,7 @@ pub fn kick_at<H: Host>(
 }
 
 /// The body of this number in a file of bodies, counted from 0, with its kick.
-pub(crate) fn kicked_at<H: Host>(
+pub fn kicked_at<H: Host>(
     host: &mut H,
     cache: &mut Cache,
     file: u64,

@@ -10,7 +10,7 @@ mod order;
 mod order_error;
 mod sorter;
 
-pub use body_file::{body_at, kick_at, push_body};
+pub use body_file::{KickedBody, body_at, kick_at, kicked_at, page_name, push_body};
 pub use order::{ById, ByKey, Order};
 pub use order_error::OrderError;
 pub use sorter::{Sorter, reorder};

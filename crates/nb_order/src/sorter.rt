@@ -10,7 +10,7 @@ ghost use Rattle.nb_cache.specs.InStep.{IsCachedFile, IsInStep};
 ghost use Rattle.nb_cache.specs.View.{seen};
 ghost use Rattle.nb_cache.specs.Writes.{RanCached};
 ghost use Rattle.nb_order.specs.Files.{page_of_body, HasBody, IsSortedCopy, IsDouble, IsUnsortable};
-ghost use Rattle.nb_order.specs.Places.{AreNumbersOf, AreReadTo, HasFirst, IsCopyOf};
+ghost use Rattle.nb_order.specs.Indexes.{AreIndexesOf, AreReadTo, HasFirst, IsCopyOf};
 ghost use Rattle.nb_order.specs.Refusals.{IsUnsorted};
 
 use crate::body_file::{body_at, kicked_at, page_name, push_body};
@@ -34,12 +34,12 @@ impl Sorter {
     }
 }
 
-/// The numbers of bodies in a file, by rank and id.
-type Places = BTreeMap<(u128, u64), u64>;
+/// The indexes of bodies in a file, by rank and id.
+type Indexes = BTreeMap<(u128, u64), u64>;
 
 /// Sorts the bodies of a file, of which there are `count`, into another file, each with its kick. It goes
-/// through the file once, and keeps the rank, the id and the number of each body in memory; then it copies
-/// the records in order, each read again by its number.
+/// through the file once, and keeps the rank, the id and the index of each body in memory; then it copies
+/// the records in order, each read again by its index.
 pub fn reorder<H: Host, O: Order>(
     host: &mut H,
     cache: &mut Cache,
@@ -61,44 +61,44 @@ pub fn reorder<H: Host, O: Order>(
     ensures ran { RanCached H.meaning OrderError.Fault (to ∷ []) cache.old host.old
         cache.new host.new result }
 {
-    let places = places_of(host, cache, sorter, order, from, count)?;
+    let indexes = indexes_of(host, cache, sorter, order, from, count)?;
     cache.empty(host, to)?;
-    copy(host, cache, &places, from, to)
+    copy(host, cache, &indexes, from, to)
 }
 
-/// The numbers of a file's bodies, of which there are `count`, by rank and id.
-fn places_of<H: Host, O: Order>(
+/// The indexes of a file's bodies, of which there are `count`, by rank and id.
+fn indexes_of<H: Host, O: Order>(
     host: &mut H,
     cache: &mut Cache,
     sorter: &mut Sorter,
     order: &O,
     from: u64,
     count: u64,
-) -> Result<Places, OrderError>
+) -> Result<Indexes, OrderError>
     requires from { IsCachedFile from }
     requires count { count ≤ most_bodies }
     requires in_step { IsInStep H.meaning cache.old host.old }
-    ensures read { IfOk result (λ places. IsTrue H.meaning.tells
-        → AreReadTo O.rank_of (seen H.meaning cache.old host.old from) count places.entries) }
-    ensures numbers { IfOk result (λ places. All (λ number. number < most_bodies) (values places)) }
-    ensures few { IfOk result (λ places. btree_map_len places ≤ most_bodies) }
+    ensures read { IfOk result (λ indexes. IsTrue H.meaning.tells
+        → AreReadTo O.rank_of (seen H.meaning cache.old host.old from) count indexes.entries) }
+    ensures numbers { IfOk result (λ indexes. All (λ number. number < most_bodies) (values indexes)) }
+    ensures few { IfOk result (λ indexes. btree_map_len indexes ≤ most_bodies) }
     ensures page { (name : PageNames) → result ≡ Err (OrderError.Damaged name) → name.file ≡ from }
     ensures shown { (name : PageNames) → result ≡ Err (OrderError.Damaged name) → IsTrue H.meaning.tells
         → IsUnsortable O.rank_of from count (seen H.meaning cache.old host.old from) name }
     ensures ran { RanCached H.meaning OrderError.Fault [] cache.old host.old cache.new host.new result }
 {
-    let mut places = BTreeMap::new(sorter.alloc);
+    let mut indexes = BTreeMap::new(sorter.alloc);
     for index in 0..count {
-        add_place(host, cache, &mut places, order, from, index)?;
+        add_index(host, cache, &mut indexes, order, from, index)?;
     }
-    Ok(places)
+    Ok(indexes)
 }
 
-/// Adds the body of this number to the numbers of the bodies before it.
-fn add_place<H: Host, O: Order>(
+/// Adds the body of this index to the indexes of the bodies before it.
+fn add_index<H: Host, O: Order>(
     host: &mut H,
     cache: &mut Cache,
-    places: &mut Places,
+    indexes: &mut Indexes,
     order: &O,
     from: u64,
     index: u64,
@@ -106,64 +106,64 @@ fn add_place<H: Host, O: Order>(
     requires from { IsCachedFile from }
     requires index { index < most_bodies }
     requires in_step { IsInStep H.meaning cache.old host.old }
-    requires numbers { All (λ number. number < index) (values places.old) }
-    ensures numbers { OnOk result (All (λ number. number < index + 1) (values places.new)) }
-    ensures count { OnOk result (btree_map_len places.new ≡ btree_map_len places.old + 1) }
+    requires numbers { All (λ number. number < index) (values indexes.old) }
+    ensures numbers { OnOk result (All (λ number. number < index + 1) (values indexes.new)) }
+    ensures count { OnOk result (btree_map_len indexes.new ≡ btree_map_len indexes.old + 1) }
     ensures read { OnOk result (IsTrue H.meaning.tells
-        → AreReadTo O.rank_of (seen H.meaning cache.old host.old from) index places.old.entries
-        → AreReadTo O.rank_of (seen H.meaning cache.old host.old from) (index + 1) places.new.entries) }
+        → AreReadTo O.rank_of (seen H.meaning cache.old host.old from) index indexes.old.entries
+        → AreReadTo O.rank_of (seen H.meaning cache.old host.old from) (index + 1) indexes.new.entries) }
     ensures page { (name : PageNames) → result ≡ Err (OrderError.Damaged name)
         → name ≡ page_of_body from index }
     ensures cause { (name : PageNames) → result ≡ Err (OrderError.Damaged name) → IsTrue H.meaning.tells
-        → AreReadTo O.rank_of (seen H.meaning cache.old host.old from) index places.old.entries
+        → AreReadTo O.rank_of (seen H.meaning cache.old host.old from) index indexes.old.entries
         → (HasBody (seen H.meaning cache.old host.old from) index → ⊥)
         ⊎ IsDouble O.rank_of (seen H.meaning cache.old host.old from) index }
     ensures ran { RanCached H.meaning OrderError.Fault [] cache.old host.old cache.new host.new result }
 {
     let body = body_at(host, cache, from, index)?;
-    match places.insert((order.rank(&body), body.id), index)? {
+    match indexes.insert((order.rank(&body), body.id), index)? {
         None => Ok(()),
         Some(_) => Err(OrderError::Damaged(page_name(from, index))),
     }
 }
 
-/// Copies the records of these numbers, in the order of the map, into an empty file.
+/// Copies the records of these indexes, in the order of the map, into an empty file.
 fn copy<H: Host>(
     host: &mut H,
     cache: &mut Cache,
-    places: &Places,
+    indexes: &Indexes,
     from: u64,
     to: u64,
 ) -> Result<(), OrderError>
     requires from { IsCachedFile from }
     requires to { IsCachedFile to }
     requires differ { from ≢ to }
-    requires numbers { All (λ number. number < most_bodies) (values places.now) }
-    requires few { btree_map_len places.now ≤ most_bodies }
+    requires numbers { All (λ number. number < most_bodies) (values indexes.now) }
+    requires few { btree_map_len indexes.now ≤ most_bodies }
     requires in_step { IsInStep H.meaning cache.old host.old }
     requires empty { IsTrue H.meaning.tells → seen H.meaning cache.old host.old to ≡ [] }
     ensures copied { OnOk result (IsTrue H.meaning.tells → (bodies list : List Bodies)
         → HasFirst (seen H.meaning cache.old host.old from) bodies
-        → AreNumbersOf bodies (values places.now) list
+        → AreIndexesOf bodies (values indexes.now) list
         → IsCopyOf (seen H.meaning cache.old host.old from) bodies
         (seen H.meaning cache.new host.new to) list) }
     ensures page { (name : PageNames) → result ≡ Err (OrderError.Damaged name)
         → (name.file ≡ from) ⊎ (name.file ≡ to) }
     ensures damaged { (name : PageNames) → result ≡ Err (OrderError.Damaged name) → IsTrue H.meaning.tells
         → (bodies list : List Bodies) → HasFirst (seen H.meaning cache.old host.old from) bodies
-        → AreNumbersOf bodies (values places.now) list → ⊥ }
+        → AreIndexesOf bodies (values indexes.now) list → ⊥ }
     ensures ran { RanCached H.meaning OrderError.Fault (to ∷ []) cache.old host.old
         cache.new host.new result }
 {
     let mut count = 0;
-    for &index in places.values() {
+    for &index in indexes.values() {
         copy_body(host, cache, from, index, to, count)?;
         count += 1;
     }
     Ok(())
 }
 
-/// Adds the body of this number, with its kick, to a file that has `count` bodies.
+/// Adds the body of this index, with its kick, to a file that has `count` bodies.
 fn copy_body<H: Host>(
     host: &mut H,
     cache: &mut Cache,

@@ -110,13 +110,13 @@ fn a_body_of_another_number(rt: HostRuntime) -> Result<(), Fail> {
 /// What a read of the one body of a page answers, one byte of which is changed, and then a push behind it.
 fn answers(
     alloc: Global,
-    place: u8,
+    offset: u8,
     byte: u8,
 ) -> Result<(Result<Body, OrderError>, Result<(), OrderError>), Fail> {
     let mut bytes = [0; PAGE_SIZE];
     begin_body_page(&mut bytes, 0);
     add_body(&mut bytes, &body(0), &kick(0));
-    bytes[usize::from(place)] = byte;
+    bytes[usize::from(offset)] = byte;
     let mut host = MemoryHost::new(alloc);
     let mut cache = Cache::new(alloc, 4)?;
     cache
@@ -132,19 +132,19 @@ fn pages_that_are_not_of_the_form(rt: HostRuntime) -> Result<(), Fail> {
     let alloc = rt.alloc();
     let damaged = OrderError::Damaged(page(0));
     // The number, a count too great, no body, a next page, and the zeros behind it.
-    for (place, byte) in [(0, 1), (8, 47), (8, 0), (16, 1), (24, 1)] {
+    for (offset, byte) in [(0, 1), (8, 47), (8, 0), (16, 1), (24, 1)] {
         assert_eq!(rt;
-            answers(alloc, place, byte)?,
+            answers(alloc, offset, byte)?,
             (Err(damaged), Err(damaged)),
-            "byte {place}"
+            "byte {offset}"
         );
     }
     // No mass, a flag too great, a position outside the box, and a kick too great.
-    for (place, byte) in [(40, 0), (44, 2), (53, 1), (103, 16)] {
+    for (offset, byte) in [(40, 0), (44, 2), (53, 1), (103, 16)] {
         assert_eq!(rt;
-            answers(alloc, place, byte)?,
+            answers(alloc, offset, byte)?,
             (Err(damaged), Ok(())),
-            "byte {place}"
+            "byte {offset}"
         );
     }
     Ok(())

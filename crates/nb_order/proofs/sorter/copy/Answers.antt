@@ -7,22 +7,22 @@ use Rattle.nb_model.specs.Limits.{most_bodies}
 use Rattle.nb_host.proofs.Callers.{stopped_after}
 use Rattle.nb_cache.specs.View.{seen}
 use Rattle.nb_cache.proofs.Callers.{other_file, writes_begins, writes_again}
-use Rattle.nb_order.specs.Places.{HasFirst, AreNumbersOf, IsCopyOf}
+use Rattle.nb_order.specs.Indexes.{HasFirst, AreIndexesOf, IsCopyOf}
 use Rattle.nb_order.specs.declared.order_error.OrderError.TheVariants.{Fault, Damaged}
 use Rattle.nb_order.proofs.Copying.{IsCopied, copied_none, copied_next, copied_more, copied_all}
 use Rattle.nb_order.proofs.sorter.copy.Goals as goal
 
 pub loop-index-init : goal.loop-index-init
 loop-index-init g c =
-    let start : c.into_iter-index-iterator.result ≡ values c.args.places.now = search rules in
+    let start : c.into_iter-index-iterator.result ≡ values c.args.indexes.now = search rules in
     record {
       writes = writes_begins g.H.Host.meaning (c.args.to ∷ []) c.args.cache.now c.args.host.now c.requires.in_step;
       spared = refl;
       numbers = subst (All (λ number. number < most_bodies)) (sym start) c.requires.numbers;
-      few = omega (arith, ap length start, length-values_of c.args.places.now.entries, c.requires.few);
+      few = omega (arith, ap length start, length-values_of c.args.indexes.now.entries, c.requires.few);
       copied = λ tells bodies list first numbered.
           copied_none (seen g.H.Host.meaning c.args.cache.now c.args.host.now c.args.from) bodies list c.into_iter-index-iterator.result _ (c.requires.empty tells)
-          (subst (λ l. AreNumbersOf bodies l list) (sym start) numbered);
+          (subst (λ l. AreIndexesOf bodies l list) (sym start) numbered);
     }
 
 pub loop-index-preserved : goal.loop-index-preserved

@@ -5,7 +5,7 @@ use Rattle.nb_model.specs.declared.body.Body.{Body}
 use Rattle.nb_model.specs.Limits.{most_bodies}
 use Rattle.nb_cache.specs.View.{seen}
 use Rattle.nb_cache.specs.Writes.{Writes}
-use Rattle.nb_order.specs.Places.{HasFirst, AreNumbersOf}
+use Rattle.nb_order.specs.Indexes.{HasFirst, AreIndexesOf}
 use Rattle.nb_order.proofs.Copying.{IsCopied}
 use Rattle.nb_order.proofs.sorter.copy.Given as goal
 
@@ -17,7 +17,7 @@ invariant-loop-index g l = record {
   few : length l.index-iterator + l.count ≤ most_bodies;
   copied : IsTrue g.H.Host.meaning.tells → (bodies list : List Body)
       → HasFirst (seen g.H.Host.meaning l.fn.cache l.fn.host l.from) bodies
-      → AreNumbersOf bodies (values l.places) list
+      → AreIndexesOf bodies (values l.indexes) list
       → IsCopied (seen g.H.Host.meaning l.fn.cache l.fn.host l.from) bodies list l.count l.index-iterator
       (seen g.H.Host.meaning l.cache l.host l.to);
 }

@@ -1,4 +1,4 @@
--- The numbers of some bodies of a file, by rank and id.
+-- The indexes of some bodies of a file, by rank and id.
 use Rattle.std.specs.Prelude.{◌≡◌, ℕ, ◌<◌, ◌≤◌, List, length, take, slice_get, Some}
 use Rattle.std.specs.List.{AllZip}
 use Rattle.nb_model.specs.declared.body.V3.{V3}
@@ -25,20 +25,20 @@ pub record IsCopyOf (from : List ℕ) (bodies : List Body) (to : List ℕ) (list
   pub kicks : (kick : Body → V3) → HasKicks from kick bodies → HasKicks to kick list
   pub padded : IsZeroPaddedFile BODY_SIZE to
 
--- The entry is that of a body of the list: its key is the body's rank and id, and its value the body's number, counted from 0.
-pub record IsEntryOf (rank : Body → ℕ) (bodies : List Body) (entry : (ℕ × ℕ) × ℕ) (body : Body) : Type 0 where
+-- The entry is that of a body of the list: its key is the body's rank and id, and its value the body's index.
+pub record IsIndexEntry (rank : Body → ℕ) (bodies : List Body) (entry : (ℕ × ℕ) × ℕ) (body : Body) : Type 0 where
   pub key : entry.0 ≡ (rank body, body.id)
   pub number : slice_get bodies entry.1 ≡ Some body
 
 -- the entries are those of the first n bodies of the list, in order
-abbrev pub AreFirstPlaces : (Body → ℕ) → List Body → ℕ → List ((ℕ × ℕ) × ℕ) → Type 0
-AreFirstPlaces rank bodies n entries = AllZip (IsEntryOf rank bodies) entries (sorted_by rank (take n bodies))
+abbrev pub AreFirstIndexes : (Body → ℕ) → List Body → ℕ → List ((ℕ × ℕ) × ℕ) → Type 0
+AreFirstIndexes rank bodies n entries = AllZip (IsIndexEntry rank bodies) entries (sorted_by rank (take n bodies))
 
--- these are the numbers of some of the bodies, counted from 0
-abbrev pub AreNumbersOf : List Body → List ℕ → List Body → Type 0
-AreNumbersOf bodies numbers some = AllZip (λ number body. slice_get bodies number ≡ Some body) numbers some
+-- these are the indexes of some of the bodies
+abbrev pub AreIndexesOf : List Body → List ℕ → List Body → Type 0
+AreIndexesOf bodies numbers some = AllZip (λ number body. slice_get bodies number ≡ Some body) numbers some
 
 -- The first n bodies of the file stand there, and these are their entries, in order.
 pub record AreReadTo (rank : Body → ℕ) (file : List ℕ) (n : ℕ) (entries : List ((ℕ × ℕ) × ℕ)) : Type 0 where
   pub has : (j : ℕ) → j < n → HasBody file j
-  pub places : (bodies : List Body) → HasFirst file bodies → n ≤ length bodies → AreFirstPlaces rank bodies n entries
+  pub indexes : (bodies : List Body) → HasFirst file bodies → n ≤ length bodies → AreFirstIndexes rank bodies n entries

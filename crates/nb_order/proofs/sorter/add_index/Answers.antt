@@ -6,7 +6,7 @@ use Rattle.std.proofs.lemmas.Map.Views.{All-values-insert_entry}
 use Rattle.nb_cache.specs.View.{seen}
 use Rattle.nb_order.specs.declared.order_error.OrderError.TheVariants.{Damaged}
 use Rattle.nb_order.proofs.Sorting.{key_order, read_more, read_double}
-use Rattle.nb_order.proofs.sorter.add_place.Goals as goal
+use Rattle.nb_order.proofs.sorter.add_index.Goals as goal
 
 -- one more number
 more_numbers : (es fs : List ((ℕ × ℕ) × ℕ)) (key : ℕ × ℕ) (n : ℕ) → All (λ number. number < n) (values_of es)
@@ -17,14 +17,14 @@ more_numbers es fs key n numbers is =
 
 pub returns-in-None-clause-numbers : goal.returns-in-None-clause-numbers
 returns-in-None-clause-numbers g c =
-    more_numbers c.args.places.now.entries c.insert.new.self.entries (c.rank.result, c.in_ok-body.body.id) c.args.index
+    more_numbers c.args.indexes.now.entries c.insert.new.self.entries (c.rank.result, c.in_ok-body.body.id) c.args.index
     c.requires.numbers c.in_ok-insert.ensures.entries
 
 pub returns-in-None-clause-read : goal.returns-in-None-clause-read
 returns-in-None-clause-read g c = λ tells all.
     let here = c.in_ok-body.ensures.read tells in
     read_more g.O.Order.rank_of (seen g.H.Host.meaning c.args.cache.now c.args.host.now c.args.from) c.in_ok-body.body c.args.index
-    c.args.places.now.entries c.insert.new.self.entries (c.rank.result, c.in_ok-body.body.id) here.0 here.1
+    c.args.indexes.now.entries c.insert.new.self.entries (c.rank.result, c.in_ok-body.body.id) here.0 here.1
     (ap (λ r. (r, c.in_ok-body.body.id)) c.rank.ensures) all (sym c.in-None.is ∙ c.in_ok-insert.ensures.old)
     c.in_ok-insert.ensures.entries c.insert.ensures.ordered
 
@@ -42,6 +42,6 @@ pub returns-in-Some-clause-cause : goal.returns-in-Some-clause-cause
 returns-in-Some-clause-cause g c = λ name is tells all.
     let here = c.in_ok-body.ensures.read tells in
     inr (read_double g.O.Order.rank_of (seen g.H.Host.meaning c.args.cache.now c.args.host.now c.args.from) c.in_ok-body.body c.args.index
-    c.args.places.now.entries (c.rank.result, c.in_ok-body.body.id) c.in-Some.field-0 here.0 here.1
+    c.args.indexes.now.entries (c.rank.result, c.in_ok-body.body.id) c.in-Some.field-0 here.0 here.1
     (ap (λ r. (r, c.in_ok-body.body.id)) c.rank.ensures) all c.requires.numbers
     (sym c.in-Some.is ∙ c.in_ok-insert.ensures.old))
