@@ -7,7 +7,7 @@ pub use Rattle.nb_record.proofs.Lists.{length-cells_of, cell_at, key_found, key_
 -- files of bodies
 pub use Rattle.nb_record.proofs.Files.{page_within, index_within, one_list}
 pub use Rattle.nb_record.proofs.SameFiles.{same_pages, same_cell_page, same_file}
-pub use Rattle.nb_record.proofs.MortonOrder.{own_order, own_front, own_by_id, held_valid}
+pub use Rattle.nb_record.proofs.MortonOrder.{own_order, own_front, own_by_id, held_valid, tree_valid, tree_in_box}
 -- the order of bodies
 pub use Rattle.nb_record.proofs.Sorting.{permuted, sorted, only, different_ids}
 pub use Rattle.nb_record.proofs.Orders.{front, in_box_sorted, ranks_rise, same_order, different_permuted}

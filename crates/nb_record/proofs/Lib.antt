@@ -32,3 +32,4 @@ mod KidBits
 mod VectorSums
 mod SameSteps
 mod KickedTrees
+pub mod Stepping

@@ -17,10 +17,10 @@ use Rattle.nb_walk.specs.declared.item.Item.TheVariants as item
 use Rattle.nb_walk.specs.declared.step.Step.{Step}
 use Rattle.nb_walk.specs.declared.step.Step.TheVariants as step
 use Rattle.nb_walk.specs.Angle.{level_of}
-use Rattle.nb_walk.specs.Terms.{Whole, terms_to_depth}
+use Rattle.nb_walk.specs.Terms.{Acceptance, terms_to_depth}
 use Rattle.nb_walk.specs.Items.{in_order, page_for, last_item, item_terms, remaining_terms}
 use Rattle.nb_walk.specs.Left.{IsItemOf, AreItemsOf}
-use Rattle.nb_walk.specs.Shown.{shown_for, next_item, Waits, LooksAt}
+use Rattle.nb_walk.specs.Shown.{shown_for, next_item, WaitsFor, LooksAt}
 use Rattle.nb_walk.specs.Course.{StepsAlong}
 use Rattle.nb_walk.proofs.Rooms.{last_pushed}
 use Rattle.nb_walk.proofs.Ways.{remaining-nil, remaining-cons, terms_none}
@@ -41,7 +41,7 @@ module _ (cells bodies_shown : ℕ → Option (List ℕ)) (tree : Tree) (old : L
   pub next_is : (front : List Item) (x : Item) → tree.count ≢ 0 → old ≡ front ++ x ∷ [] → next_item tree old ≡ Some x
   next_is front x some is = cond-false (eqb tree.count 0) None (last_item old) (ne_eqb tree.count 0 some) ∙ ap last_item is ∙ last_pushed front x
 
-  pub waits : (front : List Item) (x : Item) → tree.count ≢ 0 → old ≡ front ++ x ∷ [] → (name : PageName) → ((name ≡ page_for tree x) × (shown_for cells bodies_shown tree x ≡ None)) ↔ Waits cells bodies_shown tree old name
+  pub waits : (front : List Item) (x : Item) → tree.count ≢ 0 → old ≡ front ++ x ∷ [] → (name : PageName) → ((name ≡ page_for tree x) × (shown_for cells bodies_shown tree x ≡ None)) ↔ WaitsFor cells bodies_shown tree old name
   waits front x some is name =
       let next = next_is front x some is in (
         λ both. record { item = x; next = next; page = sym both.0; unseen = both.1 },
@@ -50,7 +50,7 @@ module _ (cells bodies_shown : ℕ → Option (List ℕ)) (tree : Tree) (old : L
             (sym wait.page ∙ ap (page_for tree) same, subst (λ y. shown_for cells bodies_shown tree y ≡ None) same wait.unseen),
       )
 
-  pub no_wait : next_item tree old ≡ None → (name : PageName) → Waits cells bodies_shown tree old name → ⊥
+  pub no_wait : next_item tree old ≡ None → (name : PageName) → WaitsFor cells bodies_shown tree old name → ⊥
   no_wait none name wait = let both = sym wait.next ∙ none in cc
 
   pub looks : (front : List Item) (x : Item) (name : PageName) → tree.count ≢ 0 → old ≡ front ++ x ∷ [] → name ≡ page_for tree x → shown_for cells bodies_shown tree x ≢ None → LooksAt cells bodies_shown tree old name
@@ -58,7 +58,7 @@ module _ (cells bodies_shown : ℕ → Option (List ℕ)) (tree : Tree) (old : L
 
 -- ---- nothing left
 
-module _ (w : Whole) (params : Params) (tree : Tree) (files : ℕ → List ℕ) (bodies : List Body) (of_tree : IsTreeOf tree files params bodies) where
+module _ (w : Acceptance) (params : Params) (tree : Tree) (files : ℕ → List ℕ) (bodies : List Body) (of_tree : IsTreeOf tree files params bodies) where
   none_in_order : tree.count ≡ 0 → in_order bodies ≡ []
   none_in_order none = empty_list (in_order bodies) (length-sorted_by by_key (in_box bodies) ∙ sym of_tree.count ∙ none)
 
@@ -80,7 +80,7 @@ module _ (w : Whole) (params : Params) (tree : Tree) (files : ℕ → List ℕ) 
   nothing_left old none = ap (remaining_terms w params.leaf bodies) (empty_list old none) ∙ remaining-nil w params.leaf bodies
 
 -- the same step, told of the same lists
-pub same_along : (v w : Whole) (params : Params) (tree : Tree) (files : ℕ → List ℕ) (bodies : List Body) (old was new now : List Item) (a b : Step) → v ≡ w → old ≡ was → new ≡ now → a ≡ b
+pub same_along : (v w : Acceptance) (params : Params) (tree : Tree) (files : ℕ → List ℕ) (bodies : List Body) (old was new now : List Item) (a b : Step) → v ≡ w → old ≡ was → new ≡ now → a ≡ b
     → StepsAlong v params tree files bodies old new a → StepsAlong w params tree files bodies was now b
 same_along v w params tree files bodies old was new now a b vw olds news ab along =
     subst (λ u. StepsAlong u params tree files bodies was now b) vw

@@ -52,9 +52,9 @@ pub same_test : (inside : Bool) (a b : ℕ) → (IsTrue inside ↔ (a ≡ b)) �
 same_test true a b holds = sym (eq-eqb a b (holds.0 refl))
 same_test false a b holds = sym (ne_eqb a b (λ e. let no = holds.1 e in cc))
 
-pub whole_is : (params : Params) (p : At) (level key : ℕ) (centre : At) (inside : Bool) → IsKeyAt level key
+pub criterion_is : (params : Params) (p : At) (level key : ℕ) (centre : At) (inside : Bool) → IsKeyAt level key
     → (IsTrue inside ↔ (key_at level p ≡ key)) → not (inside || not (is_far params p level centre)) ≡ by_angle params p key centre
-whole_is params p level key centre inside at holds =
+criterion_is params p level key centre inside at holds =
     let test = eqb (key_at level p) key in
     let same = same_test inside (key_at level p) key holds in
     not_or inside (is_far params p level centre) test same

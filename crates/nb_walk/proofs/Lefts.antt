@@ -18,8 +18,8 @@ use Rattle.nb_walk.specs.declared.item.Item.{Item}
 use Rattle.nb_walk.specs.declared.item.Item.TheVariants as item
 use Rattle.nb_walk.specs.Angle.{level_of}
 use Rattle.nb_walk.specs.Items.{chain_page, bodies_under}
-use Rattle.nb_walk.specs.Left.{pages_to, Weights, work_below, item_left, items_left, item_fuel, fuel}
-use Rattle.nb_walk.specs.Room.{kid_items, opened_items}
+use Rattle.nb_walk.specs.Left.{pages_to, Weights, work_below, item_left, items_left, item_bound, step_bound}
+use Rattle.nb_walk.specs.Looks.{kid_items, opened_items}
 use Rattle.nb_walk.proofs.KeyLevels.{child_level}
 use Rattle.nb_walk.proofs.Rooms.{no_kids}
 
@@ -136,8 +136,8 @@ module _ (k : Weights) (file : List ℕ) (tree : Tree) (params : Params) (bodies
   left_next key page next some is = omega (arith, left_cell key page some, left_cell key next some, is)
 
   -- a cell that is taken whole
-  pub left_whole : (key page : ℕ) → bodies_under key (in_box bodies) ≢ [] → pages_to file tree key (chain_page tree.bits key page) ≡ 1 → 0 < left_of (item.Cell key page)
-  left_whole key page some is = omega (arith, left_cell key page some, is)
+  pub left_accepted : (key page : ℕ) → bodies_under key (in_box bodies) ≢ [] → pages_to file tree key (chain_page tree.bits key page) ≡ 1 → 0 < left_of (item.Cell key page)
+  left_accepted key page some is = omega (arith, left_cell key page some, is)
 
   -- a kid of a cell weighs what its part does
   kid_work : (level : ℕ) (cell : Cell) (octant : ℕ) → IsTreeCell params (in_box bodies) level cell → level ≡ level_of cell.key → octant < 8 → level < 21 → cell.kids ≢ 0
@@ -210,11 +210,11 @@ module _ (k : Weights) (file : List ℕ) (tree : Tree) (params : Params) (bodies
 -- ---- over any bytes
 
 module _ (tree : Tree) where
-  pub fuel_among : (xs more : List Item) (x : Item) → fuel tree more < item_fuel tree x → fuel tree (xs ++ more) < fuel tree (xs ++ x ∷ [])
-  fuel_among xs more x less =
-      let new = sum_by-append (item_fuel tree) xs more in
-      let old = sum_by-append (item_fuel tree) xs (x ∷ []) in
-      let last = sum_by-cons (item_fuel tree) x [] in
+  pub bound_among : (xs more : List Item) (x : Item) → step_bound tree more < item_bound tree x → step_bound tree (xs ++ more) < step_bound tree (xs ++ x ∷ [])
+  bound_among xs more x less =
+      let new = sum_by-append (item_bound tree) xs more in
+      let old = sum_by-append (item_bound tree) xs (x ∷ []) in
+      let last = sum_by-cons (item_bound tree) x [] in
       omega arith
 
   sixteen_pos : (n : ℕ) → 1 ≤ 16 ^ n
@@ -228,33 +228,33 @@ module _ (tree : Tree) where
       let once : 1 * (tree.pages + tree.count + 2) ≡ tree.pages + tree.count + 2 = omega arith in
       omega arith
 
-  pub fuel_some : (x : Item) → 0 < item_fuel tree x
-  fuel_some (item.Cell key page) = omega (arith, heavy key)
-  fuel_some (item.Bodies from count) = omega arith
+  pub bound_some : (x : Item) → 0 < item_bound tree x
+  bound_some (item.Cell key page) = omega (arith, heavy key)
+  bound_some (item.Bodies from count) = omega arith
 
-  pub fuel_next : (key page next : ℕ) → page < next → next < tree.pages → fuel tree (item.Cell key next ∷ []) < item_fuel tree (item.Cell key page)
-  fuel_next key page next later within = omega (arith, sum_by-cons (item_fuel tree) (item.Cell key next) [])
+  pub bound_next : (key page next : ℕ) → page < next → next < tree.pages → step_bound tree (item.Cell key next ∷ []) < item_bound tree (item.Cell key page)
+  bound_next key page next later within = omega (arith, sum_by-cons (item_bound tree) (item.Cell key next) [])
 
-  pub fuel_opened : (cell : Cell) (page : ℕ) → IsKey cell.key → (cell.kids ≢ 0 → level_of cell.key < 21) → cell.first + cell.count ≤ tree.count → fuel tree (opened_items cell) < item_fuel tree (item.Cell cell.key page)
-  fuel_opened cell page is above within =
+  pub bound_opened : (cell : Cell) (page : ℕ) → IsKey cell.key → (cell.kids ≢ 0 → level_of cell.key < 21) → cell.first + cell.count ≤ tree.count → step_bound tree (opened_items cell) < item_bound tree (item.Cell cell.key page)
+  bound_opened cell page is above within =
       elim (cases_eq cell.kids 0) [
         | inl none ↦
-            let opened = ap (fuel tree) (cond-true (eqb cell.kids 0) (item.Bodies cell.first cell.count ∷ []) (kid_items cell.key cell.kids octants) (eq-eqb cell.kids 0 none)) in
-            let one = sum_by-cons (item_fuel tree) (item.Bodies cell.first cell.count) [] in
+            let opened = ap (step_bound tree) (cond-true (eqb cell.kids 0) (item.Bodies cell.first cell.count ∷ []) (kid_items cell.key cell.kids octants) (eq-eqb cell.kids 0 none)) in
+            let one = sum_by-cons (item_bound tree) (item.Bodies cell.first cell.count) [] in
             let much = heavy cell.key in
             omega arith
         | inr some ↦
-            let opened = ap (fuel tree) (cond-false (eqb cell.kids 0) (item.Bodies cell.first cell.count ∷ []) (kid_items cell.key cell.kids octants) (ne_eqb cell.kids 0 some)) in
+            let opened = ap (step_bound tree) (cond-false (eqb cell.kids 0) (item.Bodies cell.first cell.count ∷ []) (kid_items cell.key cell.kids octants) (ne_eqb cell.kids 0 some)) in
             parts cell page is (above some) opened
       ]
     where
-      parts : (cell : Cell) (page : ℕ) → IsKey cell.key → level_of cell.key < 21 → fuel tree (opened_items cell) ≡ fuel tree (kid_items cell.key cell.kids octants) → fuel tree (opened_items cell) < item_fuel tree (item.Cell cell.key page)
+      parts : (cell : Cell) (page : ℕ) → IsKey cell.key → level_of cell.key < 21 → step_bound tree (opened_items cell) ≡ step_bound tree (kid_items cell.key cell.kids octants) → step_bound tree (opened_items cell) < item_bound tree (item.Cell cell.key page)
       parts cell page is above opened =
           let level = level_of cell.key in
           let m = tree.pages + tree.count + 2 in
           let kid = 16 ^ (20 - level) * m + tree.pages in
-          let each : (octant : ℕ) → octant < 8 → item_fuel tree (item.Cell (8 * cell.key + octant) 0) ≤ kid = λ octant below. one_kid cell.key octant is above below in
-          let most = sum_kids_most (item_fuel tree) cell.key cell.kids kid each in
+          let each : (octant : ℕ) → octant < 8 → item_bound tree (item.Cell (8 * cell.key + octant) 0) ≤ kid = λ octant below. one_kid cell.key octant is above below in
+          let most = sum_kids_most (item_bound tree) cell.key cell.kids kid each in
           let depth : 21 - level ≡ suc (20 - level) = omega arith in
           let whole : 16 ^ (21 - level) * m ≡ 16 * (16 ^ (20 - level) * m) = ap (λ d. 16 ^ d * m) depth ∙ ap (λ p. p * m) (pow-suc 16 (20 - level)) ∙ regroup (16 ^ (20 - level)) m in
           let low = mul-le-mul_right m (sixteen_pos (20 - level)) in
@@ -264,7 +264,7 @@ module _ (tree : Tree) where
           regroup : (a b : ℕ) → a * 16 * b ≡ 16 * (a * b)
           regroup a b = grind arith
 
-          one_kid : (key octant : ℕ) → IsKey key → level_of key < 21 → octant < 8 → item_fuel tree (item.Cell (8 * key + octant) 0) ≤ 16 ^ (20 - level_of key) * (tree.pages + tree.count + 2) + tree.pages
+          one_kid : (key octant : ℕ) → IsKey key → level_of key < 21 → octant < 8 → item_bound tree (item.Cell (8 * key + octant) 0) ≤ 16 ^ (20 - level_of key) * (tree.pages + tree.count + 2) + tree.pages
           one_kid key octant is above below =
               let deeper = child_level key octant is above below in
               let depth : 21 - level_of (8 * key + octant) ≡ 20 - level_of key = omega arith in

@@ -1,6 +1,7 @@
 mod KeyLevels
 mod Rooms
 mod Ways
+mod Looks
 mod Seeing
 mod Lefts
 mod TreeItems
@@ -15,4 +16,5 @@ mod Runs
 mod Names
 mod Pools
 mod OnTheirWay
+mod WantedPages
 pub mod Callers

@@ -26,9 +26,9 @@ use Rattle.nb_walk.specs.declared.term.Term.{Term}
 use Rattle.nb_walk.specs.declared.term.Term.TheVariants as term
 use Rattle.nb_walk.specs.Angle.{by_angle}
 use Rattle.nb_walk.specs.Items.{in_order}
-use Rattle.nb_walk.specs.Terms.{Whole, body_terms, terms_to_depth, term_pull, pulls}
+use Rattle.nb_walk.specs.Terms.{Acceptance, body_terms, terms_to_depth, term_pull, pulls}
 use Rattle.nb_walk.proofs.KeyLevels.{level_is, same_test}
-use Rattle.nb_walk.proofs.Ways.{terms_none, terms_whole, terms_leaf, terms_deepest, terms_parts}
+use Rattle.nb_walk.proofs.Ways.{terms_none, terms_accepted, terms_leaf, terms_deepest, terms_parts}
 
 module _ (params : Params) (p : At) where
   pub pulls-append : (xs ys : List Term) → pulls params p (xs ++ ys) ≡ plus (pulls params p xs) (pulls params p ys)
@@ -51,7 +51,7 @@ module _ (params : Params) (p : At) where
       ∙ ap (plus (pulls params p (f o))) (pulls_flat f os)
       ∙ sym (vector_sum-cons (pulls params p (f o)) (map (λ o. pulls params p (f o)) os))
 
-  abbrev pub angle : Whole
+  abbrev pub angle : Acceptance
   angle = λ key mass centre. by_angle params p key centre
 
   accepted_is : (level key : ℕ) (bodies : List Body) → IsInBox p → IsKeyAt level key → All (λ b. IsInBox b.at) bodies → All (λ b. key_at level b.at ≡ key) bodies → bodies ≢ []
@@ -83,7 +83,7 @@ module _ (params : Params) (p : At) where
 
   taken : (depth level key : ℕ) (bodies : List Body) → IsInBox p → Own level key bodies → bodies ≢ [] → by_angle params p key (centre_of_mass bodies) ≡ true → Forces depth level key bodies
   taken depth level key bodies within own some is =
-      ap (pulls params p) (terms_whole angle params.leaf depth key bodies some is)
+      ap (pulls params p) (terms_accepted angle params.leaf depth key bodies some is)
       ∙ pulls_one (term.Cell (total_mass bodies) (centre_of_mass bodies))
       ∙ sym (force_on-accepted params p level bodies own.at.deepest some (accepted_is level key bodies within own.at own.box own.keys some ∙ is))
 

@@ -27,11 +27,11 @@ use Rattle.nb_walk.specs.declared.item.Item.TheVariants as item
 use Rattle.nb_walk.specs.declared.term.Term.{Term}
 use Rattle.nb_walk.specs.declared.term.Term.TheVariants as term
 use Rattle.nb_walk.specs.Angle.{level_of}
-use Rattle.nb_walk.specs.Terms.{Whole, body_terms, terms_to_depth, term_mass, pulls}
+use Rattle.nb_walk.specs.Terms.{Acceptance, body_terms, terms_to_depth, term_mass, pulls}
 use Rattle.nb_walk.specs.Items.{in_order, range_of, item_force, remaining_force, item_mass, remaining_mass, item_terms, remaining_terms}
 use Rattle.nb_walk.specs.Left.{IsItemOf, AreItemsOf}
 use Rattle.nb_walk.proofs.KeyLevels.{its_level}
-use Rattle.nb_walk.proofs.Ways.{remaining-nil, remaining-cons, terms_none, terms_whole, terms_leaf, terms_deepest, terms_parts, under_permuted}
+use Rattle.nb_walk.proofs.Ways.{remaining-nil, remaining-cons, terms_none, terms_accepted, terms_leaf, terms_deepest, terms_parts, under_permuted}
 use Rattle.nb_walk.proofs.Pulling.{angle, Own, pulls-append, pulls_bodies, terms_force}
 
 -- ---- the force
@@ -88,12 +88,12 @@ sums_agree : (f g : ℕ → ℕ) (os : List ℕ) → ((o : ℕ) → f o ≡ g o)
 sums_agree f g [] same = refl
 sums_agree f g (o ∷ os) same = sum_by-cons f o os ∙ ap (λ n. n + sum_by f os) (same o) ∙ ap (λ n. g o + n) (sums_agree f g os same) ∙ sym (sum_by-cons g o os)
 
-module _ (w : Whole) (leaf : ℕ) where
+module _ (w : Acceptance) (leaf : ℕ) where
   some_cons : (b : Body) (bs : List Body) → b ∷ bs ≢ []
   some_cons b bs = λ e. cc
 
-  whole_mass : (depth key : ℕ) (bs : List Body) → bs ≢ [] → w key (total_mass bs) (centre_of_mass bs) ≡ true → sum_by term_mass (terms_to_depth w leaf depth key bs) ≡ total_mass bs
-  whole_mass depth key bs some is = ap (sum_by term_mass) (terms_whole w leaf depth key bs some is) ∙ sum_by-cons term_mass (term.Cell (total_mass bs) (centre_of_mass bs)) [] ∙ plus_zero (total_mass bs) where
+  accepted_mass : (depth key : ℕ) (bs : List Body) → bs ≢ [] → w key (total_mass bs) (centre_of_mass bs) ≡ true → sum_by term_mass (terms_to_depth w leaf depth key bs) ≡ total_mass bs
+  accepted_mass depth key bs some is = ap (sum_by term_mass) (terms_accepted w leaf depth key bs some is) ∙ sum_by-cons term_mass (term.Cell (total_mass bs) (centre_of_mass bs)) [] ∙ plus_zero (total_mass bs) where
     plus_zero : (n : ℕ) → n + 0 ≡ n
     plus_zero n = omega arith
 
@@ -101,12 +101,12 @@ module _ (w : Whole) (leaf : ℕ) where
   terms_mass depth key [] = ap (sum_by term_mass) (terms_none w leaf depth key)
   terms_mass zero key (b ∷ bs) =
       elim (either (w key (total_mass (b ∷ bs)) (centre_of_mass (b ∷ bs)))) [
-        | inl is ↦ whole_mass 0 key (b ∷ bs) (some_cons b bs) is
+        | inl is ↦ accepted_mass 0 key (b ∷ bs) (some_cons b bs) is
         | inr is ↦ ap (sum_by term_mass) (terms_deepest w leaf key (b ∷ bs) (some_cons b bs) is) ∙ mass_of_bodies (b ∷ bs)
       ]
   terms_mass (suc depth) key (b ∷ bs) =
       elim (either (w key (total_mass (b ∷ bs)) (centre_of_mass (b ∷ bs)))) [
-        | inl is ↦ whole_mass (suc depth) key (b ∷ bs) (some_cons b bs) is
+        | inl is ↦ accepted_mass (suc depth) key (b ∷ bs) (some_cons b bs) is
         | inr is ↦ elim (cases_lt leaf (length (b ∷ bs))) [
           | inl many ↦
               let part = λ (o : ℕ). terms_to_depth w leaf depth (8 * key + o) (in_octant (21 - 1 - depth) (b ∷ bs) o) in

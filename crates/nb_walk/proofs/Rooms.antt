@@ -15,7 +15,8 @@ use Rattle.nb_walk.specs.declared.item.Item.{Item}
 use Rattle.nb_walk.specs.declared.item.Item.TheVariants as item
 use Rattle.nb_walk.specs.Angle.{level_of}
 use Rattle.nb_walk.specs.Items.{last_item}
-use Rattle.nb_walk.specs.Room.{item_level, IsSmall, HasRoom, kid_items}
+use Rattle.nb_walk.specs.Room.{item_level, IsSmall, HasRoom}
+use Rattle.nb_walk.specs.Looks.{kid_items}
 use Rattle.nb_walk.proofs.KeyLevels.{its_level, child_level, level_most}
 
 -- ---- one item more
@@ -42,10 +43,10 @@ found_pushed (a ∷ xs) x y (suc i) is =
     elim (found_pushed xs x y i is) [ inl before ↦ inl before | inr end ↦ inr (ap suc end.0, end.1) ]
 
 pub room_push : (xs : List Item) (x : Item) → HasRoom xs → IsSmall x → length xs ≤ 7 * item_level x → HasRoom (xs ++ x ∷ [])
-room_push xs x room small place = record {
+room_push xs x room small depth = record {
   each = λ i y is. elim (found_pushed xs x y i is) [
     | inl before ↦ room.each i y before
-    | inr end ↦ subst (λ z. i ≤ 7 * item_level z) end.1 (subst (λ n. n ≤ 7 * item_level x) (sym end.0) place)
+    | inr end ↦ subst (λ z. i ≤ 7 * item_level z) end.1 (subst (λ n. n ≤ 7 * item_level x) (sym end.0) depth)
   ];
   small = All-push IsSmall xs x room.small small;
 }
@@ -56,8 +57,8 @@ room_front xs x room = record {
   small = (All-pop IsSmall (xs ++ x ∷ []) xs (Some x) refl room.small).0;
 }
 
-pub room_place : (xs : List Item) (x : Item) → HasRoom (xs ++ x ∷ []) → length xs ≤ 7 * item_level x
-room_place xs x room = room.each (length xs) x (at_end xs x)
+pub room_depth : (xs : List Item) (x : Item) → HasRoom (xs ++ x ∷ []) → length xs ≤ 7 * item_level x
+room_depth xs x room = room.each (length xs) x (at_end xs x)
 
 pub room_small : (xs : List Item) (x : Item) → HasRoom (xs ++ x ∷ []) → IsSmall x
 room_small xs x room = (All-pop IsSmall (xs ++ x ∷ []) xs (Some x) refl room.small).1
@@ -93,16 +94,16 @@ unfolding kid_items
 no_kids key kids = refl
 
 pub room_kid : (xs : List Item) (key octant i : ℕ) → HasRoom xs → IsKey key → level_of key < 21 → octant < 8 → i < 8 → length xs ≤ 7 * level_of key + i → HasRoom (xs ++ item.Cell (8 * key + octant) 0 ∷ [])
-room_kid xs key octant i room is above below turn place =
+room_kid xs key octant i room is above below turn depth =
     let deeper = child_level key octant is above below in
     room_push xs (item.Cell (8 * key + octant) 0) room (child_is key octant is (not_deepest key is above) below, omega arith) (omega (arith, deeper))
 
--- the place of an opened cell is free
-pub place_free : (n key : ℕ) → IsKey key → n ≤ 7 * level_of key → n < 148
-place_free n key is place = let most = level_most key is in omega arith
+-- an opened cell leaves room for what is below it
+pub depth_free : (n key : ℕ) → IsKey key → n ≤ 7 * level_of key → n < 148
+depth_free n key is depth = let most = level_most key is in omega arith
 
 pub room_bodies : (xs : List Item) (cell : Cell) (first count : ℕ) → HasRoom xs → length xs ≤ 7 * level_of cell.key → IsCell cell → first ≡ cell.first → count ≡ cell.count → HasRoom (xs ++ item.Bodies first count ∷ [])
-room_bodies xs cell first count room place is same_first same_count =
+room_bodies xs cell first count room depth is same_first same_count =
     let most = level_most cell.key is.key in
     let low = is.first in
     let some = is.some_bodies in

@@ -5,13 +5,14 @@ use Rattle.std.proofs.lemmas.Bool.{cases_lt}
 use Rattle.nb_model.specs.declared.params.Params.{Params}
 use Rattle.nb_host.specs.declared.page_name.PageName.{PageName}
 use Rattle.nb_record.specs.declared.tree.Tree.{Tree}
-use Rattle.nb_walk.specs.Left.{fuel}
+use Rattle.nb_walk.specs.Left.{step_bound}
 use Rattle.nb_host.specs.declared.page_name.PageName.{PageName}
 use Rattle.nb_walk.specs.Shown.{LooksAt}
-use Rattle.nb_walk.specs.Walk.{WalkValue, IsInRange, IsWithin, OnTree, IsWaiting, CanVisit, RunsTree}
-use Rattle.nb_walk.specs.Running.{HasRun, HasSettled, Each, OneWaits, BlamesOne}
+use Rattle.nb_walk.specs.Walk.{WalkValue, IsInRange, IsWithin, OnTree, IsBlocked, CanVisit, RunsTree}
+use Rattle.nb_walk.specs.Running.{HasRun, HasSettled, Each, OneWaits}
+use Rattle.nb_walk.specs.Pool.{BlamesOne}
 
--- ---- one place of a list at a time
+-- ---- one element of a list at a time
 
 pub each_none : (R : WalkValue → WalkValue → Type 0) (old now : List WalkValue) → Each R 0 old now
 each_none R old now k d below = absurd (omega arith)
@@ -45,25 +46,25 @@ each_all R old now i n each same still k d below = elim (cases_lt k i) [
 
 module _ (cells bodies_shown : ℕ → Option (List ℕ)) (params : Params) (tree : Tree) where
   pub still : (w : WalkValue) → IsInRange params w → HasRun cells bodies_shown params tree w w
-  still w range = record { target = refl; range = range; within = λ few. few; fuel = omega arith; over = λ files bodies of_tree box shows on. (on, omega arith) }
+  still w range = record { target = refl; range = range; within = λ few. few; bound = omega arith; over = λ files bodies of_tree shows on. (on, omega arith) }
 
-  pub has_run : (old new : WalkValue) (result : Result Bool PageName) → new.target ≡ old.target → IsInRange params new → (IsWithin tree.mass old → IsWithin tree.mass new) → fuel tree new.items ≤ fuel tree old.items
+  pub has_run : (old new : WalkValue) (result : Result Bool PageName) → new.target ≡ old.target → IsInRange params new → (IsWithin tree.mass old → IsWithin tree.mass new) → step_bound tree new.items ≤ step_bound tree old.items
       → OnTree params tree cells bodies_shown old (λ bodies file. RunsTree cells bodies_shown params bodies tree file old new result) → HasRun cells bodies_shown params tree old new
   has_run old new result target range within less over = record {
     target = target;
     range = range;
     within = within;
-    fuel = less;
-    over = λ files bodies of_tree box shows on. let after = over files bodies of_tree box shows on in (after.on, after.left);
+    bound = less;
+    over = λ files bodies of_tree shows on. let after = over files bodies of_tree shows on in (after.on, after.left);
   }
 
-  pub has_settled : (old new : WalkValue) (result : Result Bool PageName) → (new.items ≡ []) ⊎ IsWaiting cells bodies_shown tree new.items
-      → (CanVisit cells bodies_shown tree old.items → fuel tree new.items < fuel tree old.items)
+  pub has_settled : (old new : WalkValue) (result : Result Bool PageName) → (new.items ≡ []) ⊎ IsBlocked cells bodies_shown tree new.items
+      → (CanVisit cells bodies_shown tree old.items → step_bound tree new.items < step_bound tree old.items)
       → OnTree params tree cells bodies_shown old (λ bodies file. RunsTree cells bodies_shown params bodies tree file old new result) → HasSettled cells bodies_shown params tree old new
   has_settled old new result settled lower over = record {
     settled = settled;
     lower = lower;
-    fewer = λ files bodies of_tree box shows on. (over files bodies of_tree box shows on).lower;
+    fewer = λ files bodies of_tree shows on. (over files bodies of_tree shows on).lower;
   }
 
 any_default : (xs : List WalkValue) (i : ℕ) (d e : WalkValue) → i < length xs → get_or xs i d ≡ get_or xs i e
@@ -87,7 +88,7 @@ all_more P now i w each within own k d below = elim (cases_lt k i) [
       subst (λ j. P (get_or (set now i w) j d)) (sym same) (subst P (sym (get_or-set_same now i w d within)) own)
 ]
 
-pub one_waits : (cells bodies : ℕ → Option (List ℕ)) (tree : Tree) (walks : List WalkValue) (k : ℕ) → k < length walks → ((d : WalkValue) → IsWaiting cells bodies tree (get_or walks k d).items) → OneWaits cells bodies tree walks
+pub one_waits : (cells bodies : ℕ → Option (List ℕ)) (tree : Tree) (walks : List WalkValue) (k : ℕ) → k < length walks → ((d : WalkValue) → IsBlocked cells bodies tree (get_or walks k d).items) → OneWaits cells bodies tree walks
 one_waits cells bodies tree [] k within waits = absurd (omega arith)
 one_waits cells bodies tree (w ∷ ws) k within waits =
     let walk = get_or (w ∷ ws) k w in

@@ -133,8 +133,8 @@ module _ (params : Params) (bodies : List Body) (tree : Tree) (file : List ℕ) 
       let looked : IsLookOn at bytes (index_of_key key bytes) look = subst (λ r. IsLookAt key at r look) read is in
       seen_on key page look item (index_of_key key (page_of file at)) refl (subst (λ b. IsLookOn at b (index_of_key key b) look) theirs looked)
     where
-      seen_on : (key page : ℕ) (look : Look) (item : IsCellItem params bodies tree file key page) (place : Option ℕ) → index_of_key key (page_of file (chain_page tree.bits key page)) ≡ place
-          → IsLookOn (chain_page tree.bits key page) (page_of file (chain_page tree.bits key page)) place look → Seen params bodies tree file key page look
+      seen_on : (key page : ℕ) (look : Look) (item : IsCellItem params bodies tree file key page) (index : Option ℕ) → index_of_key key (page_of file (chain_page tree.bits key page)) ≡ index
+          → IsLookOn (chain_page tree.bits key page) (page_of file (chain_page tree.bits key page)) index look → Seen params bodies tree file key page look
       seen_on key page look item (Some i) there (inl found) = subst (Seen params bodies tree file key page) (sym found.1) (seen_found key page i item there)
       seen_on key page look item (Some i) there (inr bad) =
           let bytes = page_of file (chain_page tree.bits key page) in

@@ -28,15 +28,15 @@ use Rattle.nb_walk.specs.declared.step.Step.{Step}
 use Rattle.nb_walk.specs.declared.step.Step.TheVariants as step
 use Rattle.nb_walk.specs.declared.term.Term.TheVariants as term
 use Rattle.nb_walk.specs.Angle.{level_of}
-use Rattle.nb_walk.specs.Terms.{Whole}
+use Rattle.nb_walk.specs.Terms.{Acceptance}
 use Rattle.nb_walk.specs.Items.{bodies_under, remaining_terms}
 use Rattle.nb_walk.specs.Left.{Weights, item_left, IsCellItem, IsItemOf, AreItemsOf}
-use Rattle.nb_walk.specs.Room.{opened_items}
+use Rattle.nb_walk.specs.Looks.{opened_items}
 use Rattle.nb_walk.specs.Shown.{Shows}
 use Rattle.nb_walk.specs.Sight.{SeesOver}
 use Rattle.nb_walk.specs.Course.{StepsAlong}
-use Rattle.nb_walk.proofs.Ways.{AtCell, among, remaining_last, remaining_one, way_whole, way_opened, way_body}
-use Rattle.nb_walk.proofs.Lefts.{left_among, left_next, left_whole, left_opened}
+use Rattle.nb_walk.proofs.Ways.{AtCell, among, remaining_last, remaining_one, way_accepted, way_opened, way_body}
+use Rattle.nb_walk.proofs.Lefts.{left_among, left_next, left_accepted, left_opened}
 use Rattle.nb_walk.proofs.TreeItems.{opened_are}
 
 -- ---- which page is wanted
@@ -57,7 +57,7 @@ wanted seen known P is seen_is name = (
 abbrev steps : Weights
 steps = record { of_leaf = λ from count. suc count; of_bodies = λ from count. count }
 
-module _ (w : Whole) (params : Params) (tree : Tree) (files : ℕ → List ℕ) (bodies : List Body) (of_tree : IsTreeOf tree files params bodies) (front : List Item) where
+module _ (w : Acceptance) (params : Params) (tree : Tree) (files : ℕ → List ℕ) (bodies : List Body) (of_tree : IsTreeOf tree files params bodies) (front : List Item) where
   abbrev file : List ℕ
   file = files tree.cells
 
@@ -78,9 +78,9 @@ module _ (w : Whole) (params : Params) (tree : Tree) (files : ℕ → List ℕ) 
   at_cell : (cell : Cell) (page : ℕ) → SeesOver params bodies tree file cell.key page (sight.Cell cell) → AtCell params bodies cell
   at_cell cell page seen = record { distinct = of_tree.distinct; is = seen.1 }
 
-  pub step_whole : (cell : Cell) (key page mass : ℕ) (centre : At) → AreItemsOf params bodies tree file (front ++ item.Cell key page ∷ []) → SeesOver params bodies tree file key page (sight.Cell cell)
+  pub step_accepted : (cell : Cell) (key page mass : ℕ) (centre : At) → AreItemsOf params bodies tree file (front ++ item.Cell key page ∷ []) → SeesOver params bodies tree file key page (sight.Cell cell)
       → w cell.key cell.mass cell.centre ≡ true → mass ≡ cell.mass → centre ≡ cell.centre → Along key page front (step.Term (term.Cell mass centre))
-  step_whole cell key page mass centre items seen whole same_mass same_centre =
+  step_accepted cell key page mass centre items seen whole same_mass same_centre =
       subst (λ m. Along key page front (step.Term (term.Cell m centre))) (sym same_mass)
       (subst (λ c. Along key page front (step.Term (term.Cell cell.mass c))) (sym same_centre)
       (subst (λ k. AreItemsOf params bodies tree file (front ++ item.Cell k page ∷ []) → SeesOver params bodies tree file k page (sight.Cell cell) → Along k page front (step.Term (term.Cell cell.mass cell.centre))) seen.0
@@ -89,13 +89,13 @@ module _ (w : Whole) (params : Params) (tree : Tree) (files : ℕ → List ℕ) 
       core : AreItemsOf params bodies tree file (front ++ item.Cell cell.key page ∷ []) → SeesOver params bodies tree file cell.key page (sight.Cell cell) → Along cell.key page front (step.Term (term.Cell cell.mass cell.centre))
       core items seen =
           let x = item.Cell cell.key page in
-          let more = left_whole steps file tree params bodies cell.key page seen.1.some seen.2 in
+          let more = left_accepted steps file tree params bodies cell.key page seen.1.some seen.2 in
           let sum = sum_by-append (item_left steps file tree params.leaf bodies) front (x ∷ []) in
           let last = sum_by-cons (item_left steps file tree params.leaf bodies) x [] in
           record {
             items = front_items x items;
             terms = (
-              remaining_last w params.leaf bodies front x ∙ ap (λ l. l ++ remaining_terms w params.leaf bodies front) (way_whole params bodies w cell (at_cell cell page seen) whole page),
+              remaining_last w params.leaf bodies front x ∙ ap (λ l. l ++ remaining_terms w params.leaf bodies front) (way_accepted params bodies w cell (at_cell cell page seen) whole page),
               omega arith,
             );
           }
@@ -137,7 +137,7 @@ module _ (w : Whole) (params : Params) (tree : Tree) (files : ℕ → List ℕ) 
 
 -- ---- at the bodies of a leaf
 
--- what the page of a body has at its place
+-- what the page of a body has at its index
 pub record HasBody (bytes : List ℕ) (page i : ℕ) (body : Option Body) : Type 0 where
   pub checked : read_body_page page bytes ≡ Ok bytes
   pub within : i < page_count bytes
@@ -156,11 +156,11 @@ body_here params tree files bodies cells_shown bodies_shown from bytes of_tree s
     let theirs = shows.body (from / BODIES_PER_PAGE) bytes shown in
     let checked = (bodies_checked (from / BODIES_PER_PAGE) (page_of (files tree.bodies) (from / BODIES_PER_PAGE))).1 (held.pages (from / BODIES_PER_PAGE) page) in
     let counts = held.counts (from / BODIES_PER_PAGE) page in
-    let place = index_within (length order) from within in
+    let index = index_within (length order) from within in
     subst (λ b. HasBody b (from / BODIES_PER_PAGE) (from % BODIES_PER_PAGE) (slice_get order from)) (sym theirs)
     (record { checked = checked; within = omega arith; form = held.records from within; is = held.held from within })
 
-module _ (w : Whole) (params : Params) (tree : Tree) (files : ℕ → List ℕ) (bodies : List Body) (of_tree : IsTreeOf tree files params bodies) (front : List Item) where
+module _ (w : Acceptance) (params : Params) (tree : Tree) (files : ℕ → List ℕ) (bodies : List Body) (of_tree : IsTreeOf tree files params bodies) (front : List Item) where
   pub bodies_of_item : (from count : ℕ) → AreItemsOf params bodies tree (files tree.cells) (front ++ item.Bodies from count ∷ []) → (1 ≤ count) × (from + count ≤ length (in_box bodies))
   bodies_of_item from count items = (All-pop (IsItemOf params bodies tree (files tree.cells)) (front ++ item.Bodies from count ∷ []) front (Some (item.Bodies from count)) refl items).1
 
@@ -202,7 +202,7 @@ module _ (w : Whole) (params : Params) (tree : Tree) (files : ℕ → List ℕ) 
       })
 
 -- what is lent of the page, checked
-lent : (page : ℕ) (shown : Option (List ℕ)) (lent : Option (Result (List ℕ) PageError)) (read : Result (List ℕ) PageError) → lent ≡ option_map (λ bytes. read_body_page page bytes) shown
+pub lent : (page : ℕ) (shown : Option (List ℕ)) (lent : Option (Result (List ℕ) PageError)) (read : Result (List ℕ) PageError) → lent ≡ option_map (λ bytes. read_body_page page bytes) shown
     → lent ≡ Some read → (bytes : List ℕ) × (shown ≡ Some bytes) × (read_body_page page bytes ≡ read)
 lent page None answer read is some = absurd (let no = sym is ∙ some in cc)
 lent page (Some bytes) answer read is some = (bytes, refl, (let same = sym is ∙ some in cc))

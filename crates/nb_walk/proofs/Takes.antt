@@ -33,15 +33,15 @@ use Rattle.nb_walk.specs.Angle.{level_of, by_angle}
 use Rattle.nb_walk.specs.Terms.{body_terms, term_mass}
 use Rattle.nb_walk.specs.Items.{range_of, bodies_under, remaining_terms, remaining_mass}
 use Rattle.nb_walk.specs.Left.{Weights, pages_of, item_left, IsItemOf, AreItemsOf, remaining_pages}
-use Rattle.nb_walk.specs.Room.{opened_items}
+use Rattle.nb_walk.specs.Looks.{opened_items}
 use Rattle.nb_walk.specs.Shown.{Shows}
 use Rattle.nb_walk.specs.Sight.{SeesOver}
 use Rattle.nb_walk.specs.Taking.{Adds, page_terms, TakesAlong}
 use Rattle.nb_walk.proofs.Ways.{among, remaining-nil, remaining_one, range_add}
-use Rattle.nb_walk.proofs.Lefts.{left_among, left_next, left_whole, left_opened}
+use Rattle.nb_walk.proofs.Lefts.{left_among, left_next, left_accepted, left_opened}
 use Rattle.nb_walk.proofs.Pulling.{angle}
 use Rattle.nb_walk.proofs.Remaining.{remaining_terms_mass}
-use Rattle.nb_walk.proofs.Stepping.{HasBody, page_has, bodies_of_item, front_items, step_whole, step_opened, step_next}
+use Rattle.nb_walk.proofs.Stepping.{HasBody, page_has, bodies_of_item, front_items, step_accepted, step_opened, step_next}
 use Rattle.nb_walk.proofs.Tallies.{adds_none}
 
 -- more than is left is more than the tree has
@@ -68,12 +68,12 @@ module _ (params : Params) (tree : Tree) (files : ℕ → List ℕ) (bodies : Li
   cell_some cell key page seen = subst (λ k. in_cell (level_of key) k (in_box bodies) ≢ []) seen.0 seen.1.some
 
   -- a cell as one mass
-  pub takes_whole : (cell : Cell) (key page : ℕ) (a b : Tally) → AreItemsOf params bodies tree file (front ++ item.Cell key page ∷ []) → SeesOver params bodies tree file key page (sight.Cell cell)
+  pub takes_accepted : (cell : Cell) (key page : ℕ) (a b : Tally) → AreItemsOf params bodies tree file (front ++ item.Cell key page ∷ []) → SeesOver params bodies tree file key page (sight.Cell cell)
       → by_angle params a.target cell.key cell.centre ≡ true → Adds params (term.Cell cell.mass cell.centre ∷ []) a b → Along (front ++ item.Cell key page ∷ []) front a b
-  takes_whole cell key page a b items seen whole added =
+  takes_accepted cell key page a b items seen whole added =
       let x = item.Cell key page in
-      let steps = step_whole (angle params a.target) params tree files bodies of_tree front cell key page cell.mass cell.centre items seen whole refl refl in
-      let more = left_whole paged file tree params bodies key page (cell_some cell key page seen) seen.2 in
+      let steps = step_accepted (angle params a.target) params tree files bodies of_tree front cell key page cell.mass cell.centre items seen whole refl refl in
+      let more = left_accepted paged file tree params bodies key page (cell_some cell key page seen) seen.2 in
       let less = left_among paged file tree params bodies front [] x more in
       record {
         terms = term.Cell cell.mass cell.centre ∷ [];
@@ -83,11 +83,11 @@ module _ (params : Params) (tree : Tree) (files : ℕ → List ℕ) (bodies : Li
         fewer = subst (λ l. remaining_pages file tree params.leaf bodies l < remaining_pages file tree params.leaf bodies (front ++ x ∷ [])) (append-nil front) less;
       }
 
-  pub whole_heavy : (cell : Cell) (key page : ℕ) (a : Tally) → AreItemsOf params bodies tree file (front ++ item.Cell key page ∷ []) → SeesOver params bodies tree file key page (sight.Cell cell)
+  pub accepted_heavy : (cell : Cell) (key page : ℕ) (a : Tally) → AreItemsOf params bodies tree file (front ++ item.Cell key page ∷ []) → SeesOver params bodies tree file key page (sight.Cell cell)
       → by_angle params a.target cell.key cell.centre ≡ true → tree.mass < a.taken + cell.mass → tree.mass < a.taken + remaining_mass bodies (front ++ item.Cell key page ∷ [])
-  whole_heavy cell key page a items seen whole heavy =
+  accepted_heavy cell key page a items seen whole heavy =
       let t = term.Cell cell.mass cell.centre in
-      let steps = step_whole (angle params a.target) params tree files bodies of_tree front cell key page cell.mass cell.centre items seen whole refl refl in
+      let steps = step_accepted (angle params a.target) params tree files bodies of_tree front cell key page cell.mass cell.centre items seen whole refl refl in
       let one = sum_by-cons term_mass t [] in
       too_heavy params bodies tree (front ++ item.Cell key page ∷ []) front a (t ∷ []) steps.terms.0 (omega arith)
 
@@ -145,30 +145,30 @@ module _ (params : Params) (tree : Tree) (files : ℕ → List ℕ) (bodies : Li
       → HasBody bytes (from / BODIES_PER_PAGE) (from % BODIES_PER_PAGE + j) (slice_get (sorted_by by_key bodies) (from + j))
   has_body cells_shown bodies_shown from count j bytes shows lent within below on_page =
       let same : (from + j) / BODIES_PER_PAGE ≡ from / BODIES_PER_PAGE = omega arith in
-      let place : (from + j) % BODIES_PER_PAGE ≡ from % BODIES_PER_PAGE + j = omega arith in
+      let index : (from + j) % BODIES_PER_PAGE ≡ from % BODIES_PER_PAGE + j = omega arith in
       let is = subst (λ p. lent.answer ≡ option_map (λ b. read_body_page p b) (bodies_shown p)) (sym same) lent.is in
       let has = page_has params tree files bodies cells_shown bodies_shown (from + j) lent.answer bytes of_tree shows (omega arith) is lent.some in
       subst (λ p. HasBody bytes p (from % BODIES_PER_PAGE + j) (slice_get (sorted_by by_key bodies) (from + j))) same
-      (subst (λ i. HasBody bytes ((from + j) / BODIES_PER_PAGE) i (slice_get (sorted_by by_key bodies) (from + j))) place has)
+      (subst (λ i. HasBody bytes ((from + j) / BODIES_PER_PAGE) i (slice_get (sorted_by by_key bodies) (from + j))) index has)
 
   same_range : (cells_shown bodies_shown : ℕ → Option (List ℕ)) (from count here : ℕ) (bytes : List ℕ) → Pages cells_shown bodies_shown → Lent bodies_shown from bytes
       → from + count ≤ length (in_box bodies) → here ≤ count → from % BODIES_PER_PAGE + here ≤ BODIES_PER_PAGE → from % BODIES_PER_PAGE + here ≤ page_count bytes
       → take here (drop (from % BODIES_PER_PAGE) (bodies_of bytes)) ≡ range_of bodies from here
   same_range cells_shown bodies_shown from count here bytes shows lent within few on_page on_this =
       let order = sorted_by by_key bodies in
-      let place = from % BODIES_PER_PAGE in
+      let index = from % BODIES_PER_PAGE in
       let most = length-filter-le (λ (b : Body). not b.out) bodies in
       let long : length order ≡ length bodies = length-sorted_by by_key bodies in
-      let left : length (take here (drop place (bodies_of bytes))) ≡ here = omega (arith, length-take here (drop place (bodies_of bytes)), length-drop place (bodies_of bytes), length-bodies_of bytes) in
+      let left : length (take here (drop index (bodies_of bytes))) ≡ here = omega (arith, length-take here (drop index (bodies_of bytes)), length-drop index (bodies_of bytes), length-bodies_of bytes) in
       let right : length (take here (drop from order)) ≡ here = omega (arith, length-take here (drop from order), length-drop from order) in
-      same_lists (take here (drop place (bodies_of bytes))) (take here (drop from order)) (left ∙ sym right)
+      same_lists (take here (drop index (bodies_of bytes))) (take here (drop from order)) (left ∙ sym right)
       (λ j d below.
       let small : j < here = omega arith in
       let has = has_body cells_shown bodies_shown from count j bytes shows lent within (omega arith) (omega arith) in
-      let body = body_of (body_record (place + j) bytes) in
-      get_or-take here (drop place (bodies_of bytes)) j d small
-      ∙ get_or-drop place (bodies_of bytes) j d
-      ∙ get_or_from_slice_get (bodies_of bytes) (place + j) body d (body_at bytes (place + j) has.within)
+      let body = body_of (body_record (index + j) bytes) in
+      get_or-take here (drop index (bodies_of bytes)) j d small
+      ∙ get_or-drop index (bodies_of bytes) j d
+      ∙ get_or_from_slice_get (bodies_of bytes) (index + j) body d (body_at bytes (index + j) has.within)
       ∙ sym (get_or-take here (drop from order) j d small ∙ get_or-drop from order j d ∙ get_or_from_slice_get order (from + j) body d has.is))
 
   -- the terms of the page are those of the range
@@ -176,9 +176,9 @@ module _ (params : Params) (tree : Tree) (files : ℕ → List ℕ) (bodies : Li
       → from + count ≤ length (in_box bodies) → here ≤ count → from % BODIES_PER_PAGE + here ≤ BODIES_PER_PAGE → from % BODIES_PER_PAGE + here ≤ page_count bytes
       → page_terms bytes (from % BODIES_PER_PAGE) (from % BODIES_PER_PAGE + here) ≡ body_terms (range_of bodies from here)
   page_range cells_shown bodies_shown from count here bytes shows lent within few on_page on_this =
-      let place = from % BODIES_PER_PAGE in
-      let n : place + here - place ≡ here = omega arith in
-      ap (λ k. body_terms (take k (drop place (bodies_of bytes)))) n
+      let index = from % BODIES_PER_PAGE in
+      let n : index + here - index ≡ here = omega arith in
+      ap (λ k. body_terms (take k (drop index (bodies_of bytes)))) n
       ∙ ap body_terms (same_range cells_shown bodies_shown from count here bytes shows lent within few on_page on_this)
 
   -- the terms of the old items

@@ -136,8 +136,8 @@ pub next_body : (bytes : List ℕ) (from i : ℕ) (b : Body) → from ≤ i → 
 next_body bytes from i b later within is =
     let bodies = bodies_of bytes in
     let more : i + 1 - from ≡ (i - from) + 1 = omega arith in
-    let place : from + (i - from) ≡ i = omega arith in
-    let there : slice_get (drop from bodies) (i - from) ≡ Some b = at_dropped bodies from (i - from) ∙ ap (slice_get bodies) place ∙ body_at bytes i within ∙ ap (λ c. Some c) (sym is) in
+    let index : from + (i - from) ≡ i = omega arith in
+    let there : slice_get (drop from bodies) (i - from) ≡ Some b = at_dropped bodies from (i - from) ∙ ap (slice_get bodies) index ∙ body_at bytes i within ∙ ap (λ c. Some c) (sym is) in
     ap (λ n. body_terms (take n (drop from bodies))) more
     ∙ ap body_terms (take_next (drop from bodies) (i - from) b there)
     ∙ map-append (λ c. term.Body c) (take (i - from) (drop from bodies)) (b ∷ [])

@@ -18,7 +18,7 @@ use Rattle.nb_walk.specs.declared.item.Item.{Item}
 use Rattle.nb_walk.specs.declared.item.Item.TheVariants as item
 use Rattle.nb_walk.specs.Angle.{level_of}
 use Rattle.nb_walk.specs.Left.{IsCellItem, IsItemOf, AreItemsOf}
-use Rattle.nb_walk.specs.Room.{kid_items, opened_items}
+use Rattle.nb_walk.specs.Looks.{kid_items, opened_items}
 use Rattle.nb_walk.proofs.KeyLevels.{level_is}
 use Rattle.nb_walk.proofs.Rooms.{no_kids}
 

@@ -19,12 +19,12 @@ use Rattle.nb_walk.specs.declared.visit.Visit.{Visit}
 use Rattle.nb_walk.specs.declared.visit.Visit.TheVariants as visit
 use Rattle.nb_walk.specs.Terms.{term_mass, pulls}
 use Rattle.nb_walk.specs.Items.{last_item, remaining_terms, remaining_force}
-use Rattle.nb_walk.specs.Left.{IsItemOf, AreItemsOf, fuel, item_fuel, remaining_pages}
-use Rattle.nb_walk.specs.Shown.{next_item, shown_for, Waits}
+use Rattle.nb_walk.specs.Left.{IsItemOf, AreItemsOf, step_bound, item_bound, remaining_pages}
+use Rattle.nb_walk.specs.Shown.{next_item, shown_for, WaitsFor}
 use Rattle.nb_walk.specs.Taking.{TakesAlong, TakesOver}
-use Rattle.nb_walk.specs.Walk.{WalkValue, IsInRange, IsWithin, IsWalkOn, Lowers, IsSound, OnTree, VisitsTree, IsWaiting, CanVisit, RunsTree}
+use Rattle.nb_walk.specs.Walk.{WalkValue, IsInRange, IsWithin, IsWalkOn, Lowers, IsSound, OnTree, VisitsTree, IsBlocked, CanVisit, RunsTree}
 use Rattle.nb_walk.proofs.Courses.{empty_list}
-use Rattle.nb_walk.proofs.Lefts.{fuel_some}
+use Rattle.nb_walk.proofs.Lefts.{bound_some}
 use Rattle.nb_walk.proofs.Pulling.{angle, pulls-append}
 use Rattle.nb_walk.proofs.Remaining.{remaining_pulls, remaining_terms_mass}
 
@@ -105,27 +105,27 @@ module _ (cells bodies_shown : ℕ → Option (List ℕ)) (params : Params) (tre
     pub target : new.target ≡ old.target
     pub range : IsInRange params new
     pub within : IsWithin tree.mass old → IsWithin tree.mass new
-    pub moved : (new ≡ old) ⊎ (fuel tree new.items < fuel tree old.items)
+    pub moved : (new ≡ old) ⊎ (step_bound tree new.items < step_bound tree old.items)
     pub over : OnTree params tree cells bodies_shown old
         (λ bodies file. IsWalkOn params bodies tree file new × ((new ≡ old) ⊎ (remaining_pages file tree params.leaf bodies new.items < remaining_pages file tree params.leaf bodies old.items)))
 
   pub ran_none : (w : WalkValue) → IsInRange params w → Ran w w
-  ran_none w range = record { target = refl; range = range; within = λ few. few; moved = inl refl; over = λ files bodies of_tree box shows on. (on, inl refl) }
+  ran_none w range = record { target = refl; range = range; within = λ few. few; moved = inl refl; over = λ files bodies of_tree shows on. (on, inl refl) }
 
   still_less : (f : WalkValue → ℕ) (old mid new : WalkValue) → (mid ≡ old) ⊎ (f mid < f old) → f new < f mid → f new < f old
   still_less f old mid new (inl same) less = subst (λ w. f new < f w) same less
   still_less f old mid new (inr lower) less = omega arith
 
-  pub ran_more : (old mid new : WalkValue) (result : Visit) → result ≡ visit.Moved → Ran old mid → new.target ≡ mid.target → IsInRange params new → (IsWithin tree.mass mid → IsWithin tree.mass new) → Lowers result (fuel tree mid.items) (fuel tree new.items)
+  pub ran_more : (old mid new : WalkValue) (result : Visit) → result ≡ visit.Moved → Ran old mid → new.target ≡ mid.target → IsInRange params new → (IsWithin tree.mass mid → IsWithin tree.mass new) → Lowers result (step_bound tree mid.items) (step_bound tree new.items)
       → OnTree params tree cells bodies_shown mid (λ bodies file. VisitsTree params bodies tree file mid new result) → Ran old new
   ran_more old mid new result is ran target range within lower over = record {
     target = target ∙ ran.target;
     range = range;
     within = λ few. within (ran.within few);
-    moved = inr (still_less (λ w. fuel tree w.items) old mid new ran.moved (subst (λ r. Lowers r (fuel tree mid.items) (fuel tree new.items)) is lower));
-    over = λ files bodies of_tree box shows on.
-        let before = ran.over files bodies of_tree box shows on in
-        let after = subst (VisitsTree params bodies tree (files tree.cells) mid new) is (over files bodies of_tree box shows before.0) in
+    moved = inr (still_less (λ w. step_bound tree w.items) old mid new ran.moved (subst (λ r. Lowers r (step_bound tree mid.items) (step_bound tree new.items)) is lower));
+    over = λ files bodies of_tree shows on.
+        let before = ran.over files bodies of_tree shows on in
+        let after = subst (VisitsTree params bodies tree (files tree.cells) mid new) is (over files bodies of_tree shows before.0) in
         (after.on, inr (still_less (Pages bodies (files tree.cells)) old mid new before.1 after.fewer));
   }
 
@@ -135,23 +135,23 @@ module _ (cells bodies_shown : ℕ → Option (List ℕ)) (params : Params) (tre
     kept_item true o x is = absurd (cc)
     kept_item false o x is = is
 
-  some_fuel : (items : List Item) (x : Item) → last_item items ≡ Some x → 0 < fuel tree items
-  some_fuel [] x is = absurd (cc)
-  some_fuel (y ∷ ys) x is = omega (arith, sum_by-cons (item_fuel tree) y ys, fuel_some tree y)
+  some_bound : (items : List Item) (x : Item) → last_item items ≡ Some x → 0 < step_bound tree items
+  some_bound [] x is = absurd (cc)
+  some_bound (y ∷ ys) x is = omega (arith, sum_by-cons (item_bound tree) y ys, bound_some tree y)
 
   -- ---- where it waits
 
-  pub waiting_is : (items : List Item) (name : PageName) → Waits cells bodies_shown tree items name → IsWaiting cells bodies_shown tree items
-  waiting_is items name waits = record { item = waits.item; last = next_last items waits.item waits.next; unseen = waits.unseen }
+  pub blocked_is : (items : List Item) (name : PageName) → WaitsFor cells bodies_shown tree items name → IsBlocked cells bodies_shown tree items
+  blocked_is items name waits = record { item = waits.item; last = next_last items waits.item waits.next; unseen = waits.unseen }
 
-  no_visit : (items : List Item) → IsWaiting cells bodies_shown tree items → CanVisit cells bodies_shown tree items → ⊥
+  no_visit : (items : List Item) → IsBlocked cells bodies_shown tree items → CanVisit cells bodies_shown tree items → ⊥
   no_visit items waits can =
       let same : waits.item ≡ can.item = let both = sym waits.last ∙ can.last in cc in
       can.shown (subst (λ x. shown_for cells bodies_shown tree x ≡ None) same waits.unseen)
 
-  pub waits_lower : (old new : WalkValue) → Ran old new → IsWaiting cells bodies_shown tree new.items → CanVisit cells bodies_shown tree old.items → fuel tree new.items < fuel tree old.items
+  pub waits_lower : (old new : WalkValue) → Ran old new → IsBlocked cells bodies_shown tree new.items → CanVisit cells bodies_shown tree old.items → step_bound tree new.items < step_bound tree old.items
   waits_lower old new ran waits can = elim ran.moved [
-    | inl same ↦ absurd (no_visit old.items (subst (λ w. IsWaiting cells bodies_shown tree w.items) same waits) can)
+    | inl same ↦ absurd (no_visit old.items (subst (λ w. IsBlocked cells bodies_shown tree w.items) same waits) can)
     | inr less ↦ less
   ]
 
@@ -159,37 +159,37 @@ module _ (cells bodies_shown : ℕ → Option (List ℕ)) (params : Params) (tre
   at_most f old new (inl same) = subst (λ w. f w ≤ f old) (sym same) (omega arith)
   at_most f old new (inr less) = omega arith
 
-  pub ran_fuel : (old new : WalkValue) → Ran old new → fuel tree new.items ≤ fuel tree old.items
-  ran_fuel old new ran = at_most (λ w. fuel tree w.items) old new ran.moved
+  pub ran_bound : (old new : WalkValue) → Ran old new → step_bound tree new.items ≤ step_bound tree old.items
+  ran_bound old new ran = at_most (λ w. step_bound tree w.items) old new ran.moved
 
-  pub waits_over : (old new : WalkValue) → Ran old new → IsWaiting cells bodies_shown tree new.items
+  pub waits_over : (old new : WalkValue) → Ran old new → IsBlocked cells bodies_shown tree new.items
       → OnTree params tree cells bodies_shown old (λ bodies file. RunsTree cells bodies_shown params bodies tree file old new (Ok false))
-  waits_over old new ran waits = λ files bodies of_tree box shows on.
-      let after = ran.over files bodies of_tree box shows on in
+  waits_over old new ran waits = λ files bodies of_tree shows on.
+      let after = ran.over files bodies of_tree shows on in
       record {
         on = after.0;
         sound = refl;
         left = at_most (Pages bodies (files tree.cells)) old new after.1;
         lower = λ some can. elim after.1 [
-          | inl same ↦ absurd (no_visit old.items (subst (λ w. IsWaiting cells bodies_shown tree w.items) same waits) can)
+          | inl same ↦ absurd (no_visit old.items (subst (λ w. IsBlocked cells bodies_shown tree w.items) same waits) can)
           | inr less ↦ less
         ];
       }
 
   -- ---- where it is finished
 
-  pub ended_lower : (old new : WalkValue) → new.items ≡ [] → CanVisit cells bodies_shown tree old.items → fuel tree new.items < fuel tree old.items
-  ended_lower old new none can = subst (λ l. fuel tree l < fuel tree old.items) (sym none) (some_fuel old.items can.item can.last)
+  pub ended_lower : (old new : WalkValue) → new.items ≡ [] → CanVisit cells bodies_shown tree old.items → step_bound tree new.items < step_bound tree old.items
+  ended_lower old new none can = subst (λ l. step_bound tree l < step_bound tree old.items) (sym none) (some_bound old.items can.item can.last)
 
-  pub ended_fuel : (old new : WalkValue) → new.items ≡ [] → fuel tree new.items ≤ fuel tree old.items
-  ended_fuel old new none = subst (λ l. fuel tree l ≤ fuel tree old.items) (sym none) (omega arith)
+  pub ended_bound : (old new : WalkValue) → new.items ≡ [] → step_bound tree new.items ≤ step_bound tree old.items
+  ended_bound old new none = subst (λ l. step_bound tree l ≤ step_bound tree old.items) (sym none) (omega arith)
 
   pub ended_over : (old mid new : WalkValue) (result : Visit) → Ran old mid → next_item tree mid.items ≡ None → new.items ≡ []
       → OnTree params tree cells bodies_shown mid (λ bodies file. VisitsTree params bodies tree file mid new result)
       → OnTree params tree cells bodies_shown old (λ bodies file. RunsTree cells bodies_shown params bodies tree file old new (Ok true))
-  ended_over old mid new result ran over_ none over = λ files bodies of_tree box shows on.
-      let before = ran.over files bodies of_tree box shows on in
-      let after = over files bodies of_tree box shows before.0 in
+  ended_over old mid new result ran over_ none over = λ files bodies of_tree shows on.
+      let before = ran.over files bodies of_tree shows on in
+      let after = over files bodies of_tree shows before.0 in
       let f = Pages bodies (files tree.cells) in
       let zero_left : f new ≡ 0 = ap (remaining_pages (files tree.cells) tree params.leaf bodies) none in
       record {
@@ -211,7 +211,7 @@ module _ (cells bodies_shown : ℕ → Option (List ℕ)) (params : Params) (tre
   pub damaged_over : (old mid new : WalkValue) (result : Visit) (name : PageName) → result ≡ visit.Damaged name → Ran old mid
       → OnTree params tree cells bodies_shown mid (λ bodies file. VisitsTree params bodies tree file mid new result)
       → OnTree params tree cells bodies_shown old (λ bodies file. RunsTree cells bodies_shown params bodies tree file old new (Err name))
-  damaged_over old mid new result name is ran over = λ files bodies of_tree box shows on.
-      let before = ran.over files bodies of_tree box shows on in
-      let after = over files bodies of_tree box shows before.0 in
+  damaged_over old mid new result name is ran over = λ files bodies of_tree shows on.
+      let before = ran.over files bodies of_tree shows on in
+      let after = over files bodies of_tree shows before.0 in
       absurd (subst IsSound is after.sound)

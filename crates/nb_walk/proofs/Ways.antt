@@ -22,9 +22,9 @@ use Rattle.nb_walk.specs.declared.item.Item.TheVariants as item
 use Rattle.nb_walk.specs.declared.term.Term.{Term}
 use Rattle.nb_walk.specs.declared.term.Term.TheVariants as term
 use Rattle.nb_walk.specs.Angle.{level_of}
-use Rattle.nb_walk.specs.Terms.{Whole, body_terms, cell_terms, terms_to_depth}
+use Rattle.nb_walk.specs.Terms.{Acceptance, body_terms, cell_terms, terms_to_depth}
 use Rattle.nb_walk.specs.Items.{in_order, range_of, bodies_under, item_terms, remaining_terms}
-use Rattle.nb_walk.specs.Room.{kid_items, opened_items}
+use Rattle.nb_walk.specs.Looks.{kid_items, opened_items}
 use Rattle.nb_walk.proofs.KeyLevels.{child_level, root_level}
 
 -- ---- the bodies of a cell, in Morton order
@@ -58,24 +58,24 @@ same_centre xs ys is =
 
 -- ---- the terms of a cell, case by case
 
-module _ (w : Whole) (leaf : ℕ) where
+module _ (w : Acceptance) (leaf : ℕ) where
   pub terms_none : (depth key : ℕ) → terms_to_depth w leaf depth key [] ≡ []
   unfolding terms_to_depth
   terms_none zero key = refl
   terms_none (suc depth) key = refl
 
-  whole_cell : (key : ℕ) (bodies : List Body) (opened : List Term) → bodies ≢ [] → w key (total_mass bodies) (centre_of_mass bodies) ≡ true → cell_terms w key bodies opened ≡ term.Cell (total_mass bodies) (centre_of_mass bodies) ∷ []
-  whole_cell key [] opened some is = absurd (some refl)
-  whole_cell key (b ∷ bs) opened some is = cond-true (w key (total_mass (b ∷ bs)) (centre_of_mass (b ∷ bs))) (term.Cell (total_mass (b ∷ bs)) (centre_of_mass (b ∷ bs)) ∷ []) opened is
+  accepted_cell : (key : ℕ) (bodies : List Body) (opened : List Term) → bodies ≢ [] → w key (total_mass bodies) (centre_of_mass bodies) ≡ true → cell_terms w key bodies opened ≡ term.Cell (total_mass bodies) (centre_of_mass bodies) ∷ []
+  accepted_cell key [] opened some is = absurd (some refl)
+  accepted_cell key (b ∷ bs) opened some is = cond-true (w key (total_mass (b ∷ bs)) (centre_of_mass (b ∷ bs))) (term.Cell (total_mass (b ∷ bs)) (centre_of_mass (b ∷ bs)) ∷ []) opened is
 
   opened_cell : (key : ℕ) (bodies : List Body) (opened : List Term) → bodies ≢ [] → w key (total_mass bodies) (centre_of_mass bodies) ≡ false → cell_terms w key bodies opened ≡ opened
   opened_cell key [] opened some is = absurd (some refl)
   opened_cell key (b ∷ bs) opened some is = cond-false (w key (total_mass (b ∷ bs)) (centre_of_mass (b ∷ bs))) (term.Cell (total_mass (b ∷ bs)) (centre_of_mass (b ∷ bs)) ∷ []) opened is
 
-  pub terms_whole : (depth key : ℕ) (bodies : List Body) → bodies ≢ [] → w key (total_mass bodies) (centre_of_mass bodies) ≡ true → terms_to_depth w leaf depth key bodies ≡ term.Cell (total_mass bodies) (centre_of_mass bodies) ∷ []
+  pub terms_accepted : (depth key : ℕ) (bodies : List Body) → bodies ≢ [] → w key (total_mass bodies) (centre_of_mass bodies) ≡ true → terms_to_depth w leaf depth key bodies ≡ term.Cell (total_mass bodies) (centre_of_mass bodies) ∷ []
   unfolding terms_to_depth
-  terms_whole zero key bodies some is = whole_cell key bodies (body_terms bodies) some is
-  terms_whole (suc depth) key bodies some is = whole_cell key bodies _ some is
+  terms_accepted zero key bodies some is = accepted_cell key bodies (body_terms bodies) some is
+  terms_accepted (suc depth) key bodies some is = accepted_cell key bodies _ some is
 
   pub terms_deepest : (key : ℕ) (bodies : List Body) → bodies ≢ [] → w key (total_mass bodies) (centre_of_mass bodies) ≡ false → terms_to_depth w leaf zero key bodies ≡ body_terms bodies
   unfolding terms_to_depth
@@ -95,7 +95,7 @@ module _ (w : Whole) (leaf : ℕ) where
 
 -- ---- the terms of a list of items
 
-module _ (w : Whole) (leaf : ℕ) (bodies : List Body) where
+module _ (w : Acceptance) (leaf : ℕ) (bodies : List Body) where
   pub remaining-nil : remaining_terms w leaf bodies [] ≡ []
   unfolding remaining_terms
   remaining-nil = refl
@@ -196,13 +196,13 @@ module _ (params : Params) (bodies : List Body) where
   own_read : (cell : Cell) → AtCell params bodies cell → own cell ≡ take cell.count (drop cell.first (sorted_by by_key bodies))
   own_read cell at = under_order (level_of cell.key) cell.key bodies at.distinct ∙ sym (cell_read params bodies (level_of cell.key) cell at.is)
 
-  module _ (w : Whole) (cell : Cell) (at : AtCell params bodies cell) where
+  module _ (w : Acceptance) (cell : Cell) (at : AtCell params bodies cell) where
     answer : (t : Bool) → w cell.key cell.mass cell.centre ≡ t → w cell.key (total_mass (own cell)) (centre_of_mass (own cell)) ≡ t
     answer t is = ap (λ m. w cell.key m (centre_of_mass (own cell))) (own_mass cell at) ∙ ap (w cell.key cell.mass) (own_centre cell at) ∙ is
 
-    pub way_whole : w cell.key cell.mass cell.centre ≡ true → (page : ℕ) → item_terms w params.leaf bodies (item.Cell cell.key page) ≡ term.Cell cell.mass cell.centre ∷ []
-    way_whole is page =
-        terms_whole w params.leaf (21 - level_of cell.key) cell.key (own cell) (own_some cell at) (answer true is)
+    pub way_accepted : w cell.key cell.mass cell.centre ≡ true → (page : ℕ) → item_terms w params.leaf bodies (item.Cell cell.key page) ≡ term.Cell cell.mass cell.centre ∷ []
+    way_accepted is page =
+        terms_accepted w params.leaf (21 - level_of cell.key) cell.key (own cell) (own_some cell at) (answer true is)
         ∙ ap (λ m. term.Cell m (centre_of_mass (own cell)) ∷ []) (own_mass cell at)
         ∙ ap (λ c. term.Cell cell.mass c ∷ []) (own_centre cell at)
 
@@ -271,7 +271,7 @@ module _ (params : Params) (bodies : List Body) where
 
 -- ---- a new walk, and one over a tree without bodies
 
-pub root_terms : (w : Whole) (leaf : ℕ) (bodies : List Body) → remaining_terms w leaf bodies (item.Cell 1 0 ∷ []) ≡ terms_to_depth w leaf 21 1 (in_order bodies)
+pub root_terms : (w : Acceptance) (leaf : ℕ) (bodies : List Body) → remaining_terms w leaf bodies (item.Cell 1 0 ∷ []) ≡ terms_to_depth w leaf 21 1 (in_order bodies)
 root_terms w leaf bodies =
     remaining_one w leaf bodies (item.Cell 1 0)
     ∙ ap (λ l. terms_to_depth w leaf (21 - l) 1 (in_cell l 1 (in_order bodies))) root_level
@@ -289,7 +289,7 @@ read_one [] i b is = absurd (cc)
 read_one (x ∷ xs) zero b is = let same : x ≡ b = cc in ap (λ y. y ∷ []) same
 read_one (x ∷ xs) (suc i) b is = read_one xs i b is
 
-pub way_body : (w : Whole) (leaf : ℕ) (bodies : List Body) (from count more : ℕ) (b : Body) → slice_get (sorted_by by_key bodies) from ≡ Some b → count ≡ 1 + more
+pub way_body : (w : Acceptance) (leaf : ℕ) (bodies : List Body) (from count more : ℕ) (b : Body) → slice_get (sorted_by by_key bodies) from ≡ Some b → count ≡ 1 + more
     → item_terms w leaf bodies (item.Bodies from count) ≡ term.Body b ∷ item_terms w leaf bodies (item.Bodies (from + 1) more)
 way_body w leaf bodies from count more b is counts =
     ap (λ n. body_terms (range_of bodies from n)) counts

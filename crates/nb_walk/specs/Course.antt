@@ -11,7 +11,7 @@ use Rattle.nb_walk.specs.declared.step.Step.{Step}
 use Rattle.nb_walk.specs.declared.step.Step.TheVariants as step
 use Rattle.nb_walk.specs.declared.term.Term.{Term}
 use Rattle.nb_walk.specs.declared.term.Term.TheVariants as term
-use Rattle.nb_walk.specs.Terms.{Whole}
+use Rattle.nb_walk.specs.Terms.{Acceptance}
 use Rattle.nb_walk.specs.Items.{remaining_terms}
 use Rattle.nb_walk.specs.Left.{AreItemsOf, remaining_steps}
 use Rattle.nb_walk.specs.Shown.{Shows}
@@ -57,11 +57,11 @@ GoesOn terms steps old new step.Finished = (terms old ≡ []) × (new ≡ old)
 GoesOn terms steps old new (step.Damaged name) = ⊥
 
 -- Over the tree of these bodies, where only pages of its files are shown, a course goes along the interaction list.
-pub record StepsAlong (is_whole : Whole) (params : Params) (tree : Tree) (files : ℕ → List ℕ) (bodies : List Body) (old new : List Item) (result : Step) : Type 0 where
+pub record StepsAlong (accepts : Acceptance) (params : Params) (tree : Tree) (files : ℕ → List ℕ) (bodies : List Body) (old new : List Item) (result : Step) : Type 0 where
   pub items : AreItemsOf params bodies tree (files tree.cells) new
-  pub terms : GoesOn (remaining_terms is_whole params.leaf bodies) (remaining_steps (files tree.cells) tree params.leaf bodies) old new result
+  pub terms : GoesOn (remaining_terms accepts params.leaf bodies) (remaining_steps (files tree.cells) tree params.leaf bodies) old new result
 
-abbrev pub OverTree : Whole → Params → Tree → (cells bodies : ℕ → Option (List ℕ)) → List Item → List Item → Step → Type 0
-OverTree is_whole params tree cells_shown bodies_shown old new result =
+abbrev pub OverTree : Acceptance → Params → Tree → (cells bodies : ℕ → Option (List ℕ)) → List Item → List Item → Step → Type 0
+OverTree accepts params tree cells_shown bodies_shown old new result =
     (files : ℕ → List ℕ) (bodies : List Body) → IsTreeOf tree files params bodies → Shows cells_shown bodies_shown tree files
-    → AreItemsOf params bodies tree (files tree.cells) old → StepsAlong is_whole params tree files bodies old new result
+    → AreItemsOf params bodies tree (files tree.cells) old → StepsAlong accepts params tree files bodies old new result

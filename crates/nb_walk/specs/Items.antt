@@ -19,7 +19,7 @@ use Rattle.nb_walk.specs.declared.item.Item.{Item}
 use Rattle.nb_walk.specs.declared.item.Item.TheVariants as item
 use Rattle.nb_walk.specs.declared.term.Term.{Term}
 use Rattle.nb_walk.specs.Angle.{level_of}
-use Rattle.nb_walk.specs.Terms.{Whole, body_terms, terms_to_depth}
+use Rattle.nb_walk.specs.Terms.{Acceptance, body_terms, terms_to_depth}
 
 -- the bodies in the box in Morton order, as they stand at the front of the file of bodies
 abbrev pub in_order : List Body → List Body
@@ -58,16 +58,16 @@ remaining_mass bodies items = sum_by (item_mass bodies) items
 
 -- the terms of an item, whose bodies are taken in Morton order here
 
-abbrev pub item_terms : Whole → ℕ → List Body → Item → List Term
-item_terms is_whole leaf bodies (item.Cell key page) =
-    terms_to_depth is_whole leaf (deepest_level - level_of key) key (bodies_under key (in_order bodies))
-item_terms is_whole leaf bodies (item.Bodies from count) = body_terms (range_of bodies from count)
+abbrev pub item_terms : Acceptance → ℕ → List Body → Item → List Term
+item_terms accepts leaf bodies (item.Cell key page) =
+    terms_to_depth accepts leaf (deepest_level - level_of key) key (bodies_under key (in_order bodies))
+item_terms accepts leaf bodies (item.Bodies from count) = body_terms (range_of bodies from count)
 
 -- the terms that are still to come: first those of the last item
-unfoldable pub remaining_terms : Whole → ℕ → List Body → List Item → List Term
-remaining_terms is_whole leaf bodies [] = []
-remaining_terms is_whole leaf bodies (item ∷ items) =
-    remaining_terms is_whole leaf bodies items ++ item_terms is_whole leaf bodies item
+unfoldable pub remaining_terms : Acceptance → ℕ → List Body → List Item → List Term
+remaining_terms accepts leaf bodies [] = []
+remaining_terms accepts leaf bodies (item ∷ items) =
+    remaining_terms accepts leaf bodies items ++ item_terms accepts leaf bodies item
 
 -- ---- the page of an item
 

@@ -82,12 +82,12 @@ remaining_steps file tree leaf bodies items =
 
 -- What bounds the steps whatever pages are shown: a cell weighs more than eight octants, each a 16th of it, can weigh with
 -- their chains, or than the bodies of a leaf, and a later page of its chain less than an earlier one.
-abbrev pub item_fuel : Tree → Item → ℕ
-item_fuel tree (item.Cell key page) = 16 ^ (deepest_level - level_of key) * (tree.pages + tree.count + 2) + (tree.pages - page)
-item_fuel tree (item.Bodies from count) = suc count
+abbrev pub item_bound : Tree → Item → ℕ
+item_bound tree (item.Cell key page) = 16 ^ (deepest_level - level_of key) * (tree.pages + tree.count + 2) + (tree.pages - page)
+item_bound tree (item.Bodies from count) = suc count
 
-abbrev pub fuel : Tree → List Item → ℕ
-fuel tree items = sum_by (item_fuel tree) items
+abbrev pub step_bound : Tree → List Item → ℕ
+step_bound tree items = sum_by (item_bound tree) items
 
 -- ---- the items of a tree
 

@@ -1,6 +1,7 @@
 pub mod Angle
 pub mod Terms
 pub mod Items
+pub mod Looks
 pub mod Room
 pub mod Left
 pub mod Shown

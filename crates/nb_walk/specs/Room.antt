@@ -1,9 +1,8 @@
--- How much room the items of a walk need: never more than 7 for each level of the deepest cell, and one.
-use Rattle.std.specs.Prelude.{◌≡◌, ℕ, ◌+◌, ◌*◌, ◌/◌, ◌%◌, ◌^◌, ◌<◌, ◌≤◌, ◌==◌, if◌then◌else◌, List, [], ◌∷◌, ◌++◌, slice_get, Some, All}
+-- How much room the items of a walk need: never more than 7 for each level of the deepest cell, and one. This is the crate's
+-- own: no public clause speaks of it.
+use Rattle.std.specs.Prelude.{◌≡◌, ℕ, ◌+◌, ◌*◌, ◌^◌, ◌<◌, ◌≤◌, List, slice_get, Some, All}
 use Rattle.nb_model.specs.Limits.{deepest_level}
-use Rattle.nb_model.specs.Gravity.{octants}
 use Rattle.nb_key.specs.Morton.{IsKey}
-use Rattle.nb_record.specs.declared.cell.Cell.{Cell}
 use Rattle.nb_walk.specs.declared.item.Item.{Item}
 use Rattle.nb_walk.specs.declared.item.Item.TheVariants as item
 use Rattle.nb_walk.specs.Angle.{level_of}
@@ -18,18 +17,8 @@ abbrev pub IsSmall : Item → Type 0
 IsSmall (item.Cell key page) = IsKey key × (page < 2 ^ 48)
 IsSmall (item.Bodies from count) = (1 ≤ count) × (from + count ≤ 2 ^ 25)
 
--- Each item's place, from 0 on, is at most 7 for each of its levels: a walk that goes depth first leaves at most seven
--- octants of a cell waiting while it is in the eighth.
+-- Each item's index, from 0 on, is at most 7 for each of its levels: a walk that goes depth first leaves at most seven
+-- octants of a cell for later while it is in the eighth.
 pub record HasRoom (items : List Item) : Type 0 where
   pub each : (i : ℕ) (item : Item) → slice_get items i ≡ Some item → i ≤ 7 * item_level item
   pub small : All IsSmall items
-
--- the octants of a cell whose bits are set among its kids, the first octant last
-unfoldable pub kid_items : ℕ → ℕ → List ℕ → List Item
-kid_items key kids [] = []
-kid_items key kids (octant ∷ octants) =
-    kid_items key kids octants ++ (if kids / 2 ^ octant % 2 == 1 then item.Cell (8 * key + octant) 0 ∷ [] else [])
-
--- what an opened cell leaves to do: a leaf its bodies, any other the octants that aren't empty
-abbrev pub opened_items : Cell → List Item
-opened_items cell = if cell.kids == 0 then item.Bodies cell.first cell.count ∷ [] else kid_items cell.key cell.kids octants

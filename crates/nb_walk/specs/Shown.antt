@@ -28,7 +28,7 @@ abbrev pub next_item : Tree → List Item → Option Item
 next_item tree items = if tree.count == 0 then None else last_item items
 
 -- the walk waits for this page: its next item needs it, and it isn't shown
-pub record Waits (cells bodies : ℕ → Option (List ℕ)) (tree : Tree) (items : List Item) (name : PageName) : Type 0 where
+pub record WaitsFor (cells bodies : ℕ → Option (List ℕ)) (tree : Tree) (items : List Item) (name : PageName) : Type 0 where
   pub item : Item
   pub next : next_item tree items ≡ Some item
   pub page : page_for tree item ≡ name

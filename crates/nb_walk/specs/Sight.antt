@@ -1,11 +1,14 @@
--- What the page of a cell's chain says.
-use Rattle.std.specs.Prelude.{◌≡◌, ℕ, suc, ⊤, List, Option}
+-- What the page of a cell's chain says. This is of the crate's own calls.
+use Rattle.std.specs.Prelude.{◌≡◌, ℕ, suc, ⊤, List, Option, Some, None}
 use Rattle.nb_model.specs.declared.body.Body.{Body}
 use Rattle.nb_model.specs.declared.params.Params.{Params}
 use Rattle.nb_model.specs.Leapfrog.{in_box}
 use Rattle.nb_record.specs.declared.cell.Cell.{Cell}
 use Rattle.nb_record.specs.declared.tree.Tree.{Tree}
 use Rattle.nb_record.specs.Cells.{IsTreeCell}
+use Rattle.nb_record.specs.Looking.{index_of_key}
+use Rattle.nb_record.specs.Pages.{page_next}
+use Rattle.nb_record.specs.Records.{cell_record, cell_of}
 use Rattle.nb_record.specs.Tree.{IsTreeOf}
 use Rattle.nb_walk.specs.declared.sight.Sight.{Sight}
 use Rattle.nb_walk.specs.declared.sight.Sight.TheVariants as sight
@@ -39,6 +42,27 @@ SeesOver params bodies tree file key page (sight.Next next) =
     × (pages_to file tree key (chain_page tree.bits key page) ≡ suc (pages_to file tree key (chain_page tree.bits key next)))
 SeesOver params bodies tree file key page (sight.Wants name) = ⊤
 SeesOver params bodies tree file key page (sight.Damaged name) = ⊥
+
+-- the record of the key on the page that is shown, which is the first with that key
+pub record HasCell (shown : Option (List ℕ)) (key : ℕ) (cell : Cell) : Type 0 where
+  pub bytes : List ℕ
+  pub is : shown ≡ Some bytes
+  pub at : ℕ
+  pub found : index_of_key key bytes ≡ Some at
+  pub cell_is : cell_of (cell_record at bytes) ≡ cell
+
+-- the page that is shown lacks the key, and has this next page
+pub record HasNext (shown : Option (List ℕ)) (key next : ℕ) : Type 0 where
+  pub bytes : List ℕ
+  pub is : shown ≡ Some bytes
+  pub lacks : index_of_key key bytes ≡ None
+  pub next_is : page_next bytes ≡ next
+
+abbrev pub SeesPage : Option (List ℕ) → ℕ → Sight → Type 0
+SeesPage shown key (sight.Cell cell) = HasCell shown key cell
+SeesPage shown key (sight.Next next) = HasNext shown key next
+SeesPage shown key (sight.Wants name) = ⊤
+SeesPage shown key (sight.Damaged name) = ⊤
 
 abbrev pub SeesTree : Tree → (cells bodies : ℕ → Option (List ℕ)) → ℕ → ℕ → Sight → Type 0
 SeesTree tree cells_shown bodies_shown key page seen =

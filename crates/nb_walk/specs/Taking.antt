@@ -1,4 +1,4 @@
--- What a visit takes of the terms that are to come.
+-- What a visit takes of the terms that are to come. This is of the crate's own calls.
 use Rattle.std.specs.Prelude.{◌≡◌, ℕ, ◌+◌, ◌-◌, ◌<◌, ⊤, List, ◌++◌, take, drop, sum_by, Option}
 use Rattle.nb_model.specs.declared.body.Body.{Body}
 use Rattle.nb_model.specs.declared.params.Params.{Params}
@@ -24,7 +24,7 @@ pub record Adds (params : Params) (terms : List Term) (old new : Tally) : Type 0
   pub sum : new.sum ≡ plus old.sum (pulls params old.target terms)
   pub taken : new.taken ≡ old.taken + sum_by term_mass terms
 
--- the terms of the bodies of a page from a place on, up to another
+-- the terms of the bodies of a page from an index on, up to another
 abbrev pub page_terms : List ℕ → ℕ → ℕ → List Term
 page_terms bytes from end = body_terms (take (end - from) (drop from (bodies_of bytes)))
 

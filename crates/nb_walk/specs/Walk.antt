@@ -1,5 +1,5 @@
 -- A walk, and what a visit does.
-use Rattle.std.specs.Prelude.{◌≡◌, ◌≢◌, ℕ, ◌+◌, ◌*◌, ◌<◌, ◌≤◌, ⊤, Bool, List, [], All, Option, Some, None, Result, IsOk}
+use Rattle.std.specs.Prelude.{◌≡◌, ◌≢◌, ℕ, ◌+◌, ◌*◌, ◌<◌, ◌≤◌, ⊤, Bool, List, [], Option, Some, None, Result, IsOk}
 use Rattle.nb_model.specs.declared.body.At.{At}
 use Rattle.nb_model.specs.declared.body.V3.{V3}
 use Rattle.nb_model.specs.declared.body.Body.{Body}
@@ -7,7 +7,6 @@ use Rattle.nb_model.specs.declared.params.Params.{Params}
 use Rattle.nb_model.specs.Vector.{zero_vector, plus}
 use Rattle.nb_model.specs.Gravity.{force_on}
 use Rattle.nb_model.specs.Leapfrog.{in_box}
-use Rattle.nb_model.specs.Valid.{IsInBox}
 use Rattle.nb_host.specs.declared.page_name.PageName.{PageName}
 use Rattle.nb_record.specs.declared.tree.Tree.{Tree}
 use Rattle.nb_record.specs.Tree.{IsTreeOf}
@@ -67,7 +66,7 @@ pub record VisitsTree (params : Params) (bodies : List Body) (tree : Tree) (file
 -- ---- visits, one after the other
 
 -- the walk waits at its last item, the page of which isn't shown
-pub record IsWaiting (cells bodies : ℕ → Option (List ℕ)) (tree : Tree) (items : List Item) : Type 0 where
+pub record IsBlocked (cells bodies : ℕ → Option (List ℕ)) (tree : Tree) (items : List Item) : Type 0 where
   pub item : Item
   pub last : last_item items ≡ Some item
   pub unseen : shown_for cells bodies tree item ≡ None
@@ -90,5 +89,5 @@ pub record RunsTree (cells bodies_shown : ℕ → Option (List ℕ)) (params : P
 -- what holds over the files of any tree, where only their pages are shown, of a walk that is on its way
 abbrev pub OnTree : Params → Tree → (cells bodies : ℕ → Option (List ℕ)) → WalkValue → (List Body → List ℕ → Type 0) → Type 0
 OnTree params tree cells_shown bodies_shown w Holds =
-    (files : ℕ → List ℕ) (bodies : List Body) → IsTreeOf tree files params bodies → All (λ b. IsInBox b.at) bodies
+    (files : ℕ → List ℕ) (bodies : List Body) → IsTreeOf tree files params bodies
     → Shows cells_shown bodies_shown tree files → IsWalkOn params bodies tree (files tree.cells) w → Holds bodies (files tree.cells)

@@ -7,11 +7,12 @@ ghost use Rattle.nb_host.specs.declared.page_name.PageName.{PageName as Names};
 ghost use Rattle.nb_walk.specs.declared.item.Item.TheVariants as item;
 ghost use Rattle.nb_record.specs.Pages.{page_count};
 ghost use Rattle.nb_record.specs.Records.{body_record, body_of, IsBodyRecord};
-ghost use Rattle.nb_walk.specs.Terms.{Whole};
+ghost use Rattle.nb_walk.specs.Terms.{Acceptance};
 ghost use Rattle.nb_walk.specs.Items.{chain_page, page_for, root_items};
-ghost use Rattle.nb_walk.specs.Left.{fuel};
+ghost use Rattle.nb_walk.specs.Left.{step_bound};
+ghost use Rattle.nb_walk.specs.Looks.{IsOneLook, next_bodies};
 ghost use Rattle.nb_walk.specs.Room.{HasRoom};
-ghost use Rattle.nb_walk.specs.Shown.{LooksAt, Waits, next_item};
+ghost use Rattle.nb_walk.specs.Shown.{LooksAt, WaitsFor, next_item};
 ghost use Rattle.nb_walk.specs.Course.{IsMove, IsStill, IsFormed, OverTree};
 
 use crate::item::Item;
@@ -70,14 +71,18 @@ impl<O: Opening> Course<O> {
         requires bits { tree.now.bits ≤ 18 }
         requires pages { tree.now.pages < 2 ^ 48 }
         ensures wants { (name : Names) → ((result ≡ Step.Wants name)
-            ↔ Waits (L.cells lender.now) (L.bodies lender.now) tree.now self.old.items name) }
+            ↔ WaitsFor (L.cells lender.now) (L.bodies lender.now) tree.now self.old.items name) }
         ensures damaged { (name : Names) → result ≡ Step.Damaged name
             → LooksAt (L.cells lender.now) (L.bodies lender.now) tree.now self.old.items name }
         ensures finished { (result ≡ Step.Finished) ↔ (next_item tree.now self.old.items ≡ None) }
         ensures same { IsStill result → self.new ≡ self.old }
         ensures kept { (self.new.opening ≡ self.old.opening) × (self.new.target ≡ self.old.target) }
         ensures form { IsFormed result }
-        ensures lower { IsMove result → fuel tree.now self.new.items < fuel tree.now self.old.items }
+        ensures look { IsMove result
+            → IsOneLook next_bodies (L.cells lender.now) (L.bodies lender.now) tree.now
+            self.old.items self.new.items }
+        ensures lower { IsMove result
+            → step_bound tree.now self.new.items < step_bound tree.now self.old.items }
         ensures tree { OverTree (O.meaning self.old.opening params.now self.old.target) params.now tree.now
             (L.cells lender.now) (L.bodies lender.now) self.old.items self.new.items result }
     {
@@ -127,16 +132,23 @@ fn cell_step<O: Opening, L: Lender>(
     requires some { tree.now.count ≢ 0 }
     requires room { HasRoom (items.old.items ++ item.Cell key page ∷ []) }
     ensures wants { (name : Names) → ((result ≡ Step.Wants name)
-        ↔ ((name ≡ page_for tree.now (item.Cell key page)) × (L.cells lender.now (chain_page tree.now.bits key page) ≡ None))) }
+        ↔ ((name ≡ page_for tree.now (item.Cell key page))
+        × (L.cells lender.now (chain_page tree.now.bits key page) ≡ None))) }
     ensures damaged { (name : Names) → result ≡ Step.Damaged name
-        → (name ≡ page_for tree.now (item.Cell key page)) × (L.cells lender.now (chain_page tree.now.bits key page) ≢ None) }
+        → (name ≡ page_for tree.now (item.Cell key page))
+        × (L.cells lender.now (chain_page tree.now.bits key page) ≢ None) }
     ensures unfinished { result ≢ Step.Finished }
     ensures room { HasRoom items.new.items }
     ensures same { IsStill result → items.new.items ≡ items.old.items ++ item.Cell key page ∷ [] }
     ensures form { IsFormed result }
-    ensures lower { IsMove result → fuel tree.now items.new.items < fuel tree.now (items.old.items ++ item.Cell key page ∷ []) }
+    ensures look { IsMove result
+        → IsOneLook next_bodies (L.cells lender.now) (L.bodies lender.now) tree.now
+        (items.old.items ++ item.Cell key page ∷ []) items.new.items }
+    ensures lower { IsMove result → step_bound tree.now items.new.items
+        < step_bound tree.now (items.old.items ++ item.Cell key page ∷ []) }
     ensures tree { OverTree (O.meaning opening.now params.now target.now) params.now tree.now
-        (L.cells lender.now) (L.bodies lender.now) (items.old.items ++ item.Cell key page ∷ []) items.new.items result }
+        (L.cells lender.now) (L.bodies lender.now)
+        (items.old.items ++ item.Cell key page ∷ []) items.new.items result }
 {
     match look_at(tree, lender, key, page) {
         Sight::Cell(cell) => {
@@ -170,9 +182,14 @@ fn bodies_step<L: Lender>(items: &mut Items, from: u64, count: u64, tree: &Tree,
     ensures room { HasRoom items.new.items }
     ensures same { IsStill result → items.new.items ≡ items.old.items ++ item.Bodies from count ∷ [] }
     ensures form { IsFormed result }
-    ensures lower { IsMove result → fuel tree.now items.new.items < fuel tree.now (items.old.items ++ item.Bodies from count ∷ []) }
-    ensures tree { (is_whole : Whole) (params : Parameters) → OverTree is_whole params tree.now
-        (L.cells lender.now) (L.bodies lender.now) (items.old.items ++ item.Bodies from count ∷ []) items.new.items result }
+    ensures look { IsMove result
+        → IsOneLook next_bodies (L.cells lender.now) (L.bodies lender.now) tree.now
+        (items.old.items ++ item.Bodies from count ∷ []) items.new.items }
+    ensures lower { IsMove result → step_bound tree.now items.new.items
+        < step_bound tree.now (items.old.items ++ item.Bodies from count ∷ []) }
+    ensures tree { (accepts : Acceptance) (params : Parameters) → OverTree accepts params tree.now
+        (L.cells lender.now) (L.bodies lender.now)
+        (items.old.items ++ item.Bodies from count ∷ []) items.new.items result }
 {
     let name = PageName {
         file: tree.bodies,
@@ -199,7 +216,8 @@ fn bodies_step<L: Lender>(items: &mut Items, from: u64, count: u64, tree: &Tree,
 /// Body i of a page, where the page has one there.
 fn body_at(page: &BodyPage<'_>, i: u64) -> Option<Body>
     ensures { MatchOption result (i < page_count page.now → ¬ IsBodyRecord (body_record i page.now))
-        (λ body. (i < page_count page.now) × IsBodyRecord (body_record i page.now) × (body ≡ body_of (body_record i page.now))) }
+        (λ body. (i < page_count page.now) × IsBodyRecord (body_record i page.now)
+        × (body ≡ body_of (body_record i page.now))) }
 {
     if i >= page.count() {
         return None;

@@ -6,7 +6,8 @@ ghost use Rattle.nb_key.specs.Morton.{IsKey};
 ghost use Rattle.nb_record.specs.Records.{IsCell};
 ghost use Rattle.nb_walk.specs.declared.item.Item.TheVariants as item;
 ghost use Rattle.nb_walk.specs.Angle.{level_of};
-ghost use Rattle.nb_walk.specs.Room.{HasRoom, kid_items, opened_items};
+ghost use Rattle.nb_walk.specs.Room.{HasRoom};
+ghost use Rattle.nb_walk.specs.Looks.{kid_items, opened_items};
 
 use crate::item::Item;
 use arrayvec::ArrayVec;
@@ -24,7 +25,7 @@ fn push_kids(items: &mut Items, key: Key, kids: u8)
     requires key { IsKey key }
     requires level { level_of key < 21 }
     requires room { HasRoom items.old.items }
-    requires place { length items.old.items ≤ 7 * level_of key }
+    requires depth { length items.old.items ≤ 7 * level_of key }
     ensures items { items.new.items ≡ items.old.items ++ kid_items key kids octants }
     ensures room { HasRoom items.new.items }
 {
@@ -39,7 +40,7 @@ fn push_kids(items: &mut Items, key: Key, kids: u8)
 /// Puts what an opened cell has in its place: the bodies of a leaf, or the octants of any other.
 pub(crate) fn open(items: &mut Items, cell: &CellView<'_>)
     requires room { HasRoom items.old.items }
-    requires place { length items.old.items ≤ 7 * level_of cell.now.key }
+    requires depth { length items.old.items ≤ 7 * level_of cell.now.key }
     requires form { IsCell cell.now }
     ensures items { items.new.items ≡ items.old.items ++ opened_items cell.now }
     ensures room { HasRoom items.new.items }

@@ -1,12 +1,13 @@
 //! Walks down a tree in its files, one for each body on which a force is wanted. A walk stops where it needs
 //! a page that isn't shown, and goes on once it is: so it reads nothing and takes no memory.
 //!
-//! A `Walk` sums the pulls on its target, and a `Pool` has many of them wait for their pages together. A `Course`
-//! hands out what acts on its target, term by term: cells that its `Opening` takes as one mass, and bodies.
-//! `tally` has what a walk has taken, `sight` looks a cell up on a page of its key's chain, and `items` has what is
-//! left, a stack with the next item on top. The definitions stand in `specs/`: the interaction list in `Terms`,
-//! what is left and the sums over it in `Items` and `Left`, what a lender shows in `Shown`, a step in `Course`, a
-//! visit in `Walk`, and an advance in `Pool`. `laws` ties them to the definition's force.
+//! A `Walk` sums the pulls on its target, and a `Pool` has many of them wait for their pages together. A
+//! `Course` hands out what acts on its target, term by term: cells that its `Opening` takes as one mass,
+//! and bodies. `tally` has what a walk has taken, `sight` looks a cell up on a page of its key's chain, and
+//! `items` has what is left, a stack with the next item on top. The definitions stand in `specs/`: the
+//! interaction list in `Terms`, what is left and the sums over it in `Items` and `Left`, one look in
+//! `Looks`, what a lender shows in `Shown`, a step in `Course`, a visit in `Walk`, and an advance in
+//! `Pool`. `laws` ties them to the definition's force.
 #![tactic(auto)]
 
 mod course;

@@ -12,7 +12,8 @@ use nb_record::CellView;
 
 /// Which cells act on a target as one mass.
 pub trait Opening {
-    // The meaning: whether a cell is taken whole, by the parameters, the target, and the cell's key, mass and centre.
+    // The meaning: whether a cell is taken as one mass, by the parameters, the target, and the cell's key,
+    // mass and centre.
     ghost meaning: { Self → Params → At → ℕ → ℕ → At → Bool };
 
     /// Whether the cell acts on a target at `from`, in box units, as one mass at its centre.
@@ -22,8 +23,8 @@ pub trait Opening {
         ensures { result ≡ meaning self.now params.now from.now cell.now.key cell.now.mass cell.now.centre };
 }
 
-/// The opening angle (Barnes and Hut 1986): a cell acts as one mass where it doesn't hold the target, and its side
-/// over the distance of its centre is below `theta_num / theta_den`.
+/// The opening angle (Barnes and Hut 1986): a cell acts as one mass where it doesn't hold the target, and its
+/// side over the distance of its centre is below `theta_num / theta_den`.
 #[derive(Clone, Copy, PartialEq, Eq, Debug)]
 pub struct ByAngle;
 

@@ -7,10 +7,10 @@ ghost use Rattle.nb_host.specs.Page.{IsRising};
 ghost use Rattle.nb_model.specs.declared.body.Body.{Body as Bodies};
 ghost use Rattle.nb_record.specs.Tree.{IsTreeOf};
 ghost use Rattle.nb_walk.specs.Shown.{IsWalkable, Shows};
-ghost use Rattle.nb_walk.specs.Running.{HasRun, HasSettled, Each, OneWaits, IsNext, BlamesOne};
+ghost use Rattle.nb_walk.specs.Running.{HasRun, HasSettled, Each, OneWaits, IsNext};
 ghost use Rattle.nb_walk.specs.Page.{IsPageOf};
 ghost use Rattle.nb_walk.specs.Walk.{new_walk, IsInRange, IsWalkOn};
-ghost use Rattle.nb_walk.specs.Pool.{unasked, all_unasked, waiting, targets, sums, AreInRange, AreWithin, AreFinished, IsSettled, SomeWaits, IsNeeded, IsWanted, pool_fuel, CanGoOn, IsAdvanced, PoolOnTree};
+ghost use Rattle.nb_walk.specs.Pool.{unasked, all_unasked, pooled, targets, sums, AreInRange, AreWithin, AreFinished, IsSettled, SomeWaits, BlamesOne, IsNeeded, IsWanted, pool_bound, CanGoOn, IsAdvanced, PoolOnTree};
 
 use crate::walk::Walk;
 use nb_host::PageName;
@@ -34,13 +34,13 @@ pub struct Pool {
 
 impl Model for Pool {
     ghost use Rattle.std.specs.Prelude.{◌≤◌, map, vec_len, vec_capacity};
-    ghost use Rattle.nb_walk.specs.Pool.{PoolValue, waiting};
+    ghost use Rattle.nb_walk.specs.Pool.{PoolValue, pooled};
 
     ghost Value = { PoolValue };
 
     ghost view = { λ p. record {
       room = p.room;
-      walks = map (waiting p.asked) p.walks.items;
+      walks = map (pooled p.asked) p.walks.items;
       wants = p.wants.items;
     } };
 
@@ -132,9 +132,9 @@ impl Pool {
             (map (λ w. w.walk) self.new.walks) name }
         ensures unasked { OnErr result (self.new.walks ≡ all_unasked self.new.walks) }
         ensures none { OnErr result (self.new.wants ≡ []) }
-        ensures fuel { pool_fuel tree.now self.new.walks ≤ pool_fuel tree.now self.old.walks }
+        ensures bound { pool_bound tree.now self.new.walks ≤ pool_bound tree.now self.old.walks }
         ensures lower { CanGoOn (L.cells lender.now) (L.bodies lender.now) tree.now self.old.walks
-            → OnOk result (pool_fuel tree.now self.new.walks < pool_fuel tree.now self.old.walks) }
+            → OnOk result (pool_bound tree.now self.new.walks < pool_bound tree.now self.old.walks) }
         ensures sound { PoolOnTree params.now tree.now (L.cells lender.now) (L.bodies lender.now)
             self.old.walks (λ bodies file. IsOk result) }
         ensures tree { PoolOnTree params.now tree.now (L.cells lender.now) (L.bodies lender.now)
@@ -187,7 +187,7 @@ fn run_all<L: Lender>(
     ensures damaged { (name : Names) → result ≡ Err name
         → BlamesOne (L.cells lender.now) (L.bodies lender.now) tree.now walks.new name }
     ensures sound { (files : ℕ → List ℕ) (bodies : List Bodies) → IsTreeOf tree.now files params.now bodies
-        → All (λ b. IsInBox b.at) bodies → Shows (L.cells lender.now) (L.bodies lender.now) tree.now files
+        → Shows (L.cells lender.now) (L.bodies lender.now) tree.now files
         → All (λ w. IsWalkOn params.now bodies tree.now (files tree.now.cells) w) walks.old → IsOk result }
 {
     let mut done = true;

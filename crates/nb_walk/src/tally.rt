@@ -39,7 +39,7 @@ pub(crate) struct Tally {
 
 impl Tally {
     /// Whether a cell acts on the target as one mass.
-    pub(crate) fn takes_whole(&self, params: &Params, cell: &CellView<'_>) -> bool
+    pub(crate) fn accepts(&self, params: &Params, cell: &CellView<'_>) -> bool
         requires params { AreInRange params.now }
         requires target { IsInBox self.now.target }
         requires key { self.now.key ≡ morton_key self.now.target }
@@ -74,8 +74,8 @@ impl Tally {
         true
     }
 
-    /// Adds the pulls of the bodies of a page from a place on up to another, one by one, where each is a body
-    /// and no more than `most` is taken.
+    /// Adds the pulls of the bodies of a page from an index on up to another, one by one, where each is a
+    /// body and no more than `most` is taken.
     pub(crate) fn add_bodies(
         &mut self,
         params: &Params,

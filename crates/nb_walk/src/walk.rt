@@ -7,11 +7,12 @@ ghost use Rattle.nb_host.specs.declared.page_name.PageName.{PageName as Names};
 ghost use Rattle.nb_walk.specs.declared.item.Item.{Item as SomeItem};
 ghost use Rattle.nb_walk.specs.declared.item.Item.TheVariants as item;
 ghost use Rattle.nb_walk.specs.Items.{chain_page, page_for, last_item, root_items};
-ghost use Rattle.nb_walk.specs.Left.{fuel, remaining_pages};
+ghost use Rattle.nb_walk.specs.Left.{step_bound, remaining_pages};
+ghost use Rattle.nb_walk.specs.Looks.{IsOneLook, later_bodies};
 ghost use Rattle.nb_walk.specs.Room.{HasRoom, IsSmall};
-ghost use Rattle.nb_walk.specs.Shown.{IsWalkable, IsAtMost, LooksAt, Waits, next_item, shown_for};
+ghost use Rattle.nb_walk.specs.Shown.{IsWalkable, IsAtMost, LooksAt, WaitsFor, next_item, shown_for};
 ghost use Rattle.nb_walk.specs.Taking.{TakesTree};
-ghost use Rattle.nb_walk.specs.Walk.{new_walk, IsInRange, IsWithin, IsWalkOn, Lowers, OnTree, VisitsTree, IsWaiting, CanVisit, RunsTree};
+ghost use Rattle.nb_walk.specs.Walk.{new_walk, IsInRange, IsWithin, IsWalkOn, Lowers, OnTree, VisitsTree, IsBlocked, CanVisit, RunsTree};
 ghost use Rattle.nb_walk.specs.Page.{IsPageOf};
 
 use crate::course::take_last;
@@ -82,7 +83,7 @@ impl Walk {
         ensures range { IsInRange params.now self.new }
         ensures within { IsWithin tree.now.mass self.old → IsWithin tree.now.mass self.new }
         ensures wants { (name : Names) → ((result ≡ Visit.Wants name)
-            ↔ Waits (L.cells lender.now) (L.bodies lender.now) tree.now self.old.items name) }
+            ↔ WaitsFor (L.cells lender.now) (L.bodies lender.now) tree.now self.old.items name) }
         ensures same { (name : Names) → result ≡ Visit.Wants name → self.new ≡ self.old }
         ensures finished { (result ≡ Visit.Finished) ↔ (next_item tree.now self.old.items ≡ None) }
         ensures done { result ≡ Visit.Finished → self.new ≡ record {
@@ -94,7 +95,11 @@ impl Walk {
         ensures damaged { (name : Names) → result ≡ Visit.Damaged name
             → LooksAt (L.cells lender.now) (L.bodies lender.now) tree.now self.old.items name }
         ensures kept { (name : Names) → result ≡ Visit.Damaged name → self.new.items ≡ self.old.items }
-        ensures lower { Lowers result (fuel tree.now self.old.items) (fuel tree.now self.new.items) }
+        ensures look { result ≡ Visit.Moved
+            → IsOneLook later_bodies (L.cells lender.now) (L.bodies lender.now) tree.now
+            self.old.items self.new.items }
+        ensures lower { Lowers result (step_bound tree.now self.old.items)
+            (step_bound tree.now self.new.items) }
         ensures tree { OnTree params.now tree.now (L.cells lender.now) (L.bodies lender.now) self.old
             (λ bodies file. VisitsTree params.now bodies tree.now file self.old self.new result) }
     {
@@ -128,12 +133,12 @@ impl Walk {
         ensures within { IsWithin tree.now.mass self.old → IsWithin tree.now.mass self.new }
         ensures finished { result ≡ Ok true → self.new.items ≡ [] }
         ensures waits { result ≡ Ok false
-            → IsWaiting (L.cells lender.now) (L.bodies lender.now) tree.now self.new.items }
+            → IsBlocked (L.cells lender.now) (L.bodies lender.now) tree.now self.new.items }
         ensures damaged { (name : Names) → result ≡ Err name
             → LooksAt (L.cells lender.now) (L.bodies lender.now) tree.now self.new.items name }
-        ensures fuel { fuel tree.now self.new.items ≤ fuel tree.now self.old.items }
+        ensures bound { step_bound tree.now self.new.items ≤ step_bound tree.now self.old.items }
         ensures lower { CanVisit (L.cells lender.now) (L.bodies lender.now) tree.now self.old.items
-            → OnOk result (fuel tree.now self.new.items < fuel tree.now self.old.items) }
+            → OnOk result (step_bound tree.now self.new.items < step_bound tree.now self.old.items) }
         ensures tree { OnTree params.now tree.now (L.cells lender.now) (L.bodies lender.now) self.old
             (λ bodies file. RunsTree (L.cells lender.now) (L.bodies lender.now)
             params.now bodies tree.now file self.old self.new result) }
@@ -208,14 +213,17 @@ fn visit_cell<L: Lender>(
     ensures within { tally.old.taken ≤ tree.now.mass → tally.new.taken ≤ tree.now.mass }
     ensures kept { (name : Names) → result ≡ Visit.Damaged name
         → items.new.items ≡ items.old.items ++ item.Cell key page ∷ [] }
-    ensures lower { Lowers result (fuel tree.now (items.old.items ++ item.Cell key page ∷ []))
-        (fuel tree.now items.new.items) }
+    ensures look { result ≡ Visit.Moved
+        → IsOneLook later_bodies (L.cells lender.now) (L.bodies lender.now) tree.now
+        (items.old.items ++ item.Cell key page ∷ []) items.new.items }
+    ensures lower { Lowers result (step_bound tree.now (items.old.items ++ item.Cell key page ∷ []))
+        (step_bound tree.now items.new.items) }
     ensures tree { TakesTree params.now tree.now (L.cells lender.now) (L.bodies lender.now)
         (items.old.items ++ item.Cell key page ∷ []) items.new.items tally.old tally.new result }
 {
     match look_at(tree, lender, key, page) {
         Sight::Cell(cell) => {
-            if !tally.takes_whole(params, &cell) {
+            if !tally.accepts(params, &cell) {
                 open(items, &cell);
                 return Visit::Moved;
             }
@@ -272,8 +280,11 @@ fn visit_bodies<L: Lender>(
     ensures within { tally.old.taken ≤ tree.now.mass → tally.new.taken ≤ tree.now.mass }
     ensures kept { (name : Names) → result ≡ Visit.Damaged name
         → items.new.items ≡ items.old.items ++ item.Bodies from count ∷ [] }
-    ensures lower { Lowers result (fuel tree.now (items.old.items ++ item.Bodies from count ∷ []))
-        (fuel tree.now items.new.items) }
+    ensures look { result ≡ Visit.Moved
+        → IsOneLook later_bodies (L.cells lender.now) (L.bodies lender.now) tree.now
+        (items.old.items ++ item.Bodies from count ∷ []) items.new.items }
+    ensures lower { Lowers result (step_bound tree.now (items.old.items ++ item.Bodies from count ∷ []))
+        (step_bound tree.now items.new.items) }
     ensures tree { TakesTree params.now tree.now (L.cells lender.now) (L.bodies lender.now)
         (items.old.items ++ item.Bodies from count ∷ []) items.new.items tally.old tally.new result }
 {
@@ -291,13 +302,13 @@ fn visit_bodies<L: Lender>(
             Visit::Damaged(name)
         }
         Some(Ok(page)) => {
-            let place = from % BODIES_PER_PAGE;
-            let here = count.min(BODIES_PER_PAGE - place);
-            if place + here > page.count() {
+            let index = from % BODIES_PER_PAGE;
+            let here = count.min(BODIES_PER_PAGE - index);
+            if index + here > page.count() {
                 items.push(Item::Bodies(from, count));
                 return Visit::Damaged(name);
             }
-            if !tally.add_bodies(params, tree.mass, &page, place, place + here) {
+            if !tally.add_bodies(params, tree.mass, &page, index, index + here) {
                 items.push(Item::Bodies(from, count));
                 return Visit::Damaged(name);
             }

@@ -237,7 +237,7 @@ fn bytes_of(file: &[u8], page: u64) -> &[u8]
 }
 
 /// The position of body i, close to the middle of the box.
-fn place(i: u64) -> At
+fn position(i: u64) -> At
     requires { i < MANY }
     ensures { IsInBox result }
 {
@@ -292,7 +292,7 @@ fn put_page(into: &mut [u8], page: u64)
 {
     begin_body_page(into, page);
     for i in BODIES_PER_PAGE * page..MANY.min(BODIES_PER_PAGE * page + BODIES_PER_PAGE) {
-        let at = place(i);
+        let at = position(i);
         match BodyPage::check(into, page) {
             Ok(checked) => {
                 if checked.count() >= BODIES_PER_PAGE {
@@ -313,7 +313,7 @@ fn direct(params: &Params, from: &At) -> V3
 {
     let mut sum = kick(0);
     for i in 0..MANY {
-        let more = pull(params, from, 1, &place(i));
+        let more = pull(params, from, 1, &position(i));
         sum = V3 {
             x: sum.x.wrapping_add(more.x),
             y: sum.y.wrapping_add(more.y),
@@ -358,7 +358,7 @@ fn begin_many(pool: &mut Pool, params: &Params)
     ensures range { AllInRange params.now pool.new.walks }
 {
     for i in 0..MANY {
-        begin(pool, params, place(i));
+        begin(pool, params, position(i));
     }
 }
 
@@ -385,7 +385,7 @@ fn pages_are_shown_and_withdrawn(rt: HostRuntime) -> Result<(), Fail> {
     for i in 0..MANY {
         assert_eq!(rt;
             pool_sum(&pool, i as usize),
-            Some(direct(&params, &place(i)))
+            Some(direct(&params, &position(i)))
         );
     }
     Ok(())

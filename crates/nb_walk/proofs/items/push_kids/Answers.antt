@@ -4,7 +4,8 @@ use Rattle.std.proofs.lemmas.List.{length_push}
 use Rattle.nb_model.specs.Gravity.{octants}
 use Rattle.nb_walk.specs.declared.item.Item.{Item}
 use Rattle.nb_walk.specs.declared.item.Item.TheVariants as item
-use Rattle.nb_walk.specs.Room.{HasRoom, kid_items}
+use Rattle.nb_walk.specs.Room.{HasRoom}
+use Rattle.nb_walk.specs.Looks.{kid_items}
 use Rattle.nb_walk.proofs.Rooms.{not_deepest, kid_next, no_kids, room_kid}
 use Rattle.nb_walk.proofs.items.push_kids.Goals.{then-kids-octant-eq1, else-kids-octant-eq1}
 use Rattle.nb_walk.proofs.items.push_kids.Goals as goal
@@ -13,7 +14,7 @@ pub loop-i-init : goal.loop-i-init
 loop-i-init c = record {
   items = sym (ap (λ l. c.args.items.now.items ++ l) (no_kids c.args.key c.args.kids) ∙ append-nil c.args.items.now.items);
   room = c.requires.room;
-  place = omega arith;
+  depth = omega arith;
 }
 
 pub child-requires-clause-level : goal.child-requires-clause-level
@@ -41,8 +42,8 @@ loop-i-preserved c =
           let long = length_push before (item.Cell (8 * key + octant) 0) in
           record {
             items = now ∙ with_kid old before front _ kid c.loop-i.invariant.items (next ∙ ap (λ l. old ++ l) set);
-            room = subst HasRoom (sym now) (room_kid before key octant i c.loop-i.invariant.room c.requires.key c.requires.level (omega arith) c.loop-i-test.true c.loop-i.invariant.place);
-            place = omega (arith, ap length now, c.loop-i.invariant.place);
+            room = subst HasRoom (sym now) (room_kid before key octant i c.loop-i.invariant.room c.requires.key c.requires.level (omega arith) c.loop-i-test.true c.loop-i.invariant.depth);
+            depth = omega (arith, ap length now, c.loop-i.invariant.depth);
           }
       | else-kids-octant-eq1 w ↦
           let unset = cond-false (eqb (kids / 2 ^ octant % 2) 1) kid [] (ne_eqb (kids / 2 ^ octant % 2) 1 w.if-kids-octant-eq1.false) in
@@ -50,6 +51,6 @@ loop-i-preserved c =
           record {
             items = now ∙ sym (append-nil before) ∙ with_kid old before front _ [] c.loop-i.invariant.items (next ∙ ap (λ l. old ++ l) unset);
             room = subst HasRoom (sym now) c.loop-i.invariant.room;
-            place = omega (arith, ap length now, c.loop-i.invariant.place);
+            depth = omega (arith, ap length now, c.loop-i.invariant.depth);
           }
     ]

@@ -4,5 +4,5 @@ use Rattle.nb_walk.proofs.laws.law_remaining.Goals as goal
 pub returns : goal.returns
 returns c = record {
   force = λ params bodies tree file p items within box are. remaining_pulls params bodies tree file p within box items are;
-  mass = λ is_whole leaf bodies items. remaining_terms_mass is_whole leaf bodies items;
+  mass = λ accepts leaf bodies items. remaining_terms_mass accepts leaf bodies items;
 }

@@ -1,8 +1,8 @@
 use Rattle.std.proofs.Common.{rules, ◌≡◌, ◌≢◌, ◌+◌, ◌<◌, false, Ok, Err, [], length, get_or, set, length-set, get_or-set_same, get_or-set_other, sym, ap, ◌∙◌, subst, arith, inl, inr}
 use Rattle.std.specs.Prelude.{◌⊎◌, OnOk}
-use Rattle.nb_walk.specs.Left.{fuel}
+use Rattle.nb_walk.specs.Left.{step_bound}
 use Rattle.nb_walk.specs.Shown.{LooksAt}
-use Rattle.nb_walk.specs.Walk.{IsWaiting}
+use Rattle.nb_walk.specs.Walk.{IsBlocked}
 use Rattle.nb_walk.specs.Running.{HasRun, HasSettled}
 use Rattle.nb_walk.proofs.Runs.{each_more, same_more, each_all, still, has_run, has_settled, item_at, all_more, one_waits, blames_one}
 use Rattle.nb_walk.proofs.pool.run_all.Goals.{then-not-branch, else-not-branch}
@@ -21,13 +21,13 @@ loop-walk-preserved g c =
     let before = get_or now i c.walk-item.result in
     let inv = c.loop-walk.invariant in
     let within : i < length now = omega arith in
-    let ran = has_run cells bodies params tree before new c.run.result c.run.ensures.target c.run.ensures.range c.run.ensures.within c.run.ensures.fuel c.run.ensures.tree in
+    let ran = has_run cells bodies params tree before new c.run.result c.run.ensures.target c.run.ensures.range c.run.ensures.within c.run.ensures.bound c.run.ensures.tree in
     let was = item_at old now i c.walk-item.result within inv.same in
-    let one : (new.items ≡ []) ⊎ IsWaiting cells bodies tree new.items = elim c.if-not-branch.branch [
+    let one : (new.items ≡ []) ⊎ IsBlocked cells bodies tree new.items = elim c.if-not-branch.branch [
       | then-not-branch w ↦ inr (c.run.ensures.waits (c.in_ok-run.was ∙ ap (λ b. Ok b) w.if-not-branch.true))
       | else-not-branch w ↦ inl (c.run.ensures.finished (c.in_ok-run.was ∙ ap (λ b. Ok b) w.if-not-branch.false))
     ] in
-    let lower = subst (λ r. OnOk r (fuel tree new.items < fuel tree before.items)) c.in_ok-run.was in
+    let lower = subst (λ r. OnOk r (step_bound tree new.items < step_bound tree before.items)) c.in_ok-run.was in
     let settled = has_settled cells bodies params tree before new c.run.result one (λ can. lower (c.run.ensures.lower can)) c.run.ensures.tree in
     record {
       count = length-set now i new ∙ inv.count;
@@ -43,11 +43,11 @@ loop-walk-preserved g c =
       waits = λ some. elim c.if-not-branch.branch [
         | then-not-branch w ↦
             let waits = c.run.ensures.waits (c.in_ok-run.was ∙ ap (λ b. Ok b) w.if-not-branch.true) in
-            (i, omega arith, λ d. subst (λ v. IsWaiting cells bodies tree v.items) (sym (get_or-set_same now i new d within)) waits)
+            (i, omega arith, λ d. subst (λ v. IsBlocked cells bodies tree v.items) (sym (get_or-set_same now i new d within)) waits)
         | else-not-branch w ↦
             let first = inv.waits (sym w.done-is ∙ some) in
             let other : first.0 ≢ i = let below = first.1 in omega arith in
-            (first.0, (let below = first.1 in omega arith), λ d. subst (λ v. IsWaiting cells bodies tree v.items) (sym (get_or-set_other now i first.0 new d other)) (first.2 d))
+            (first.0, (let below = first.1 in omega arith), λ d. subst (λ v. IsBlocked cells bodies tree v.items) (sym (get_or-set_other now i first.0 new d other)) (first.2 d))
       ];
     }
 
@@ -63,7 +63,7 @@ returns-in_err-run-clause-each g c =
     let new = c.run.new.self in
     let inv = c.loop-walk.invariant in
     let within : i < length now = omega arith in
-    let ran = has_run cells bodies params tree (get_or now i c.walk-item.result) new c.run.result c.run.ensures.target c.run.ensures.range c.run.ensures.within c.run.ensures.fuel c.run.ensures.tree in
+    let ran = has_run cells bodies params tree (get_or now i c.walk-item.result) new c.run.result c.run.ensures.target c.run.ensures.range c.run.ensures.within c.run.ensures.bound c.run.ensures.tree in
     let was = item_at old now i c.walk-item.result within inv.same in
     each_all (HasRun cells bodies params tree) old (set now i new) (i + 1) (length old)
     (each_more (HasRun cells bodies params tree) old now i new inv.each within (λ d. subst (λ w. HasRun cells bodies params tree w new) (was d) ran))

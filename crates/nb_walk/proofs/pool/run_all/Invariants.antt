@@ -1,5 +1,5 @@
 use Rattle.std.proofs.Common.{◌≡◌, ℕ, ◌<◌, true, false, [], length, get_or}
-use Rattle.nb_walk.specs.Walk.{WalkValue, IsWaiting}
+use Rattle.nb_walk.specs.Walk.{WalkValue, IsBlocked}
 use Rattle.nb_walk.specs.Running.{HasRun, HasSettled, Each}
 use Rattle.nb_walk.proofs.Runs.{SameFrom}
 use Rattle.nb_walk.proofs.pool.run_all.Given as goal
@@ -11,5 +11,5 @@ invariant-loop-walk g l = record {
   settled : Each (HasSettled (g.L.Lender.cells l.lender) (g.L.Lender.bodies l.lender) l.params l.tree) l.walk-index l.fn.walks l.walks;
   same : SameFrom l.walk-index l.fn.walks l.walks;
   finished : l.done ≡ true → (k : ℕ) (d : WalkValue) → k < l.walk-index → (get_or l.walks k d).items ≡ [];
-  waits : l.done ≡ false → (k : ℕ) × (k < l.walk-index) × ((d : WalkValue) → IsWaiting (g.L.Lender.cells l.lender) (g.L.Lender.bodies l.lender) l.tree (get_or l.walks k d).items);
+  waits : l.done ≡ false → (k : ℕ) × (k < l.walk-index) × ((d : WalkValue) → IsBlocked (g.L.Lender.cells l.lender) (g.L.Lender.bodies l.lender) l.tree (get_or l.walks k d).items);
 }

@@ -2,6 +2,9 @@ use Rattle.std.proofs.Common.{◌≡◌, None, [], ◌∷◌, ◌++◌, length, 
 use Rattle.std.specs.Prelude.{◌≢◌}
 use Rattle.nb_walk.specs.declared.item.Item.TheVariants as item
 use Rattle.nb_walk.specs.Left.{AreItemsOf}
+use Rattle.nb_walk.specs.Course.{IsMove}
+use Rattle.nb_walk.specs.Looks.{next_bodies}
+use Rattle.nb_walk.proofs.Looks.{same_look}
 use Rattle.nb_walk.proofs.Courses.{nothing_next, next_is, waits, no_wait, looks, none_left, finished_empty, nothing_left, same_along}
 use Rattle.nb_walk.proofs.course.Course.step.Goals.{in-Cell, in-Bodies}
 use Rattle.nb_walk.proofs.course.Course.step.Goals as goal
@@ -123,4 +126,24 @@ returns-clause-tree g c = λ files all of_tree shows items.
           let along = w.bodies_step.ensures.tree u params files all of_tree shows (subst (AreItemsOf params all tree (files tree.cells)) there items) in
           same_along u u params tree files all (front ++ x ∷ []) old w.bodies_step.new.items.items end w.bodies_step.result c.match-item.result refl (sym there)
           (sym (ap (λ s. s.items.items) w.self-inside-is)) (sym w.result-is) along
+    ]
+
+pub returns-clause-look : goal.returns-clause-look
+returns-clause-look g c = λ moved.
+    let tree = c.args.tree.now in
+    let cells = g.L.Lender.cells c.args.lender.now in
+    let bodies = g.L.Lender.bodies c.args.lender.now in
+    let old = c.args.self.now.items in
+    let front = c.take_last.new.items.items in
+    let was : old ≡ front ++ c.in-Some.item ∷ [] = ap (λ v. v.items) (sym c.self.view_is) ∙ c.in-Some.ensures.items in
+    let end = c.match-item.self-inside.items.items in
+    elim c.match-item.branch [
+      | in-Cell w ↦
+          let x = item.Cell w.in-Cell.key w.in-Cell.page in
+          same_look next_bodies cells bodies tree (front ++ x ∷ []) old w.cell_step.new.items.items end (was ∙ ap (λ y. front ++ y ∷ []) w.in-Cell.is)
+          (ap (λ s. s.items.items) w.self-inside-is) (w.cell_step.ensures.look (subst IsMove w.result-is moved))
+      | in-Bodies w ↦
+          let x = item.Bodies w.in-Bodies.from w.in-Bodies.count in
+          same_look next_bodies cells bodies tree (front ++ x ∷ []) old w.bodies_step.new.items.items end (was ∙ ap (λ y. front ++ y ∷ []) w.in-Bodies.is)
+          (ap (λ s. s.items.items) w.self-inside-is) (w.bodies_step.ensures.look (subst IsMove w.result-is moved))
     ]

@@ -3,7 +3,7 @@ use Rattle.std.specs.Prelude.{slice_get}
 use Rattle.std.proofs.lemmas.List.{length-map, get_or-map}
 use Rattle.std.proofs.lemmas.Option.{slice_get-get_or}
 use Rattle.nb_model.specs.declared.body.V3.{V3}
-use Rattle.nb_walk.specs.Pool.{waiting, sums}
+use Rattle.nb_walk.specs.Pool.{pooled, sums}
 use Rattle.nb_walk.specs.Walk.{WalkValue}
 use Rattle.nb_walk.proofs.Pools.{map_walks}
 use Rattle.nb_walk.proofs.pool.Pool.sum.Goals as goal
@@ -16,7 +16,7 @@ returns c =
     let w = c.index.result.now in
     let f : WalkValue → V3 = λ v. v.sum in
     let seen = ap (λ v. length v.walks) c.self.view_is in
-    let shown = length-map ws (waiting inside.asked) in
+    let shown = length-map ws (pooled inside.asked) in
     let all = length-map ws f in
     let within : i < length ws = omega (arith, c.requires) in
     sym (ap (λ v. slice_get (sums v.walks) i) c.self.view_is)

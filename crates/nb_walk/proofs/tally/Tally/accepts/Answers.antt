@@ -1,8 +1,8 @@
 use Rattle.std.proofs.Common.{◌-◌, ◌*◌, ◌/◌, ◌^◌, eqb, refl, ap, ◌∙◌, not}
 use Rattle.nb_walk.specs.Angle.{by_angle}
-use Rattle.nb_walk.proofs.KeyLevels.{whole_is}
+use Rattle.nb_walk.proofs.KeyLevels.{criterion_is}
 use Rattle.nb_walk.proofs.Tallies.{target_held}
-use Rattle.nb_walk.proofs.tally.Tally.takes_whole.Goals as goal
+use Rattle.nb_walk.proofs.tally.Tally.accepts.Goals as goal
 
 pub returns : goal.returns
 returns c =
@@ -14,6 +14,6 @@ returns c =
     let inside = eqb (c.args.self.now.key / 2 ^ bits) c.number.result in
     let held = target_held level key c.number.result bits c.args.self.now.key p c.level-level.ensures c.number.ensures.number c.requires.key refl in
     ap not c.opens.ensures
-    ∙ whole_is params p level key c.centre.result inside c.level-level.ensures held
+    ∙ criterion_is params p level key c.centre.result inside c.level-level.ensures held
     ∙ ap (λ k. by_angle params p k c.centre.result) c.key-key.ensures.value
     ∙ ap (λ centre. by_angle params p c.args.cell.now.key centre) c.centre.ensures.value
