@@ -19,14 +19,14 @@ use Rattle.nb_tree.proofs.Octants.{AreSorted, IsNext, some_length, next_within, 
 
 -- ---- the body ahead is the next one
 
-abbrev pub next_of_lies : {level key : ℕ} {front : List Body} {r : Reader} → IsAt front r → LiesIn level key r → IsNext level key front r.place
+abbrev pub next_of_lies : {level key : ℕ} {front : List Body} {r : Reader} → IsAt front r → LiesIn level key r → IsNext level key front r.taken
 next_of_lies at lies = record { body = lies.next.body; there = sym at ∙ ap body_ahead lies.there; lies = lies.lies }
 
 ahead_of : (ahead : Option Ahead) (b : Body) → body_ahead ahead ≡ Some b → (n : Ahead) × (ahead ≡ Some n) × (n.body ≡ b)
 ahead_of None b is = absurd (cc)
 ahead_of (Some n) b is = (n, refl, same_Some n.body b is)
 
-pub lies_of_next : {level key : ℕ} {front : List Body} {r : Reader} → IsAt front r → IsNext level key front r.place → LiesIn level key r
+pub lies_of_next : {level key : ℕ} {front : List Body} {r : Reader} → IsAt front r → IsNext level key front r.taken → LiesIn level key r
 lies_of_next {level = level} {key = key} {r = r} at next =
     let ahead = ahead_of r.ahead next.body (at ∙ next.there) in
     record { next = ahead.0; there = ahead.1; lies = subst (λ (b : Body). key_at level b.at ≡ key) (sym ahead.2) next.lies }
@@ -40,9 +40,9 @@ ranged xs from n x there =
     take_more (drop from xs) n x long
     ∙ ap (λ y. take n (drop from xs) ++ y ∷ []) (get_or-drop from xs n x ∙ get_or_from_slice_get xs (from + n) x x there)
 
--- the sums are those of the bodies that were taken from this place on, all of the cell
-pub record AreSumsTo (front : List Body) (key place : ℕ) (sums : Sums) : Type 0 where
-  pub are : AreSums sums (take sums.count (drop place front))
+-- the sums are those of the bodies that were taken behind so many, all of the cell
+pub record AreSumsTo (front : List Body) (key taken : ℕ) (sums : Sums) : Type 0 where
+  pub are : AreSums sums (take sums.count (drop taken front))
   pub most : sums.count ≤ length (in_cell 21 key front)
 
 -- the sums of these bodies and of those
@@ -72,38 +72,38 @@ sums_push a one sum xs b are is plus = record {
   length_push' : (ys : List Body) (c : Body) → length (ys ++ c ∷ []) ≡ length ys + 1
   length_push' ys c = length-append ys (c ∷ [])
 
-pub summed_none : (front : List Body) (key place : ℕ) (sums : Sums) → sums ≡ record { count = 0; mass = 0; x = 0; y = 0; z = 0 }
-    → AreSumsTo front key place sums
-summed_none front key place sums is =
-    subst (AreSumsTo front key place) (sym is) (record { are = record { count = refl; mass = refl; x = refl; y = refl; z = refl }; most = omega arith })
+pub summed_none : (front : List Body) (key taken : ℕ) (sums : Sums) → sums ≡ record { count = 0; mass = 0; x = 0; y = 0; z = 0 }
+    → AreSumsTo front key taken sums
+summed_none front key taken sums is =
+    subst (AreSumsTo front key taken) (sym is) (record { are = record { count = refl; mass = refl; x = refl; y = refl; z = refl }; most = omega arith })
 
-module _ {front : List Body} (are : AreSorted front) (key place : ℕ) (first : first_body front (in_cell 21 key front) ≡ place) where
+module _ {front : List Body} (are : AreSorted front) (key taken : ℕ) (first : first_body front (in_cell 21 key front) ≡ taken) where
   deepest_key : (now : ℕ) → IsNext 21 key front now → IsKeyAt 21 key
   deepest_key now next = subst (IsKeyAt 21) next.lies (key_is 21 next.body.at (omega arith))
 
-  pub summed_more : (now : ℕ) (sums one sum : Sums) (body : Body) → now ≡ place + sums.count → IsNext 21 key front now → slice_get front now ≡ Some body
-      → IsOne body one → IsPlus sums one sum → AreSumsTo front key place sums → AreSumsTo front key place sum
+  pub summed_more : (now : ℕ) (sums one sum : Sums) (body : Body) → now ≡ taken + sums.count → IsNext 21 key front now → slice_get front now ≡ Some body
+      → IsOne body one → IsPlus sums one sum → AreSumsTo front key taken sums → AreSumsTo front key taken sum
   summed_more now sums one sum body at next there is plus so_far =
       let range = next_within are 21 key now (deepest_key now next) (next_holds 21 key now front next) next in
       let count : sum.count ≡ sums.count + 1 = plus.count ∙ ap (λ n. sums.count + n) is.count in
       record {
-        are = subst (λ n. AreSums sum (take n (drop place front))) (sym count)
-            (subst (AreSums sum) (sym (ranged front place sums.count body (subst (λ n. slice_get front n ≡ Some body) at there)))
-            (sums_push sums one sum (take sums.count (drop place front)) body so_far.are is plus));
+        are = subst (λ n. AreSums sum (take n (drop taken front))) (sym count)
+            (subst (AreSums sum) (sym (ranged front taken sums.count body (subst (λ n. slice_get front n ≡ Some body) at there)))
+            (sums_push sums one sum (take sums.count (drop taken front)) body so_far.are is plus));
         most = omega (arith, range.1, first, at, count);
       }
 
-  pub summed_all : (now : ℕ) (sums : Sums) → now ≡ place + sums.count → (some : IsNext 21 key front place) → (IsNext 21 key front now → ⊥)
-      → AreSumsTo front key place sums → AreSums sums (in_cell 21 key front)
+  pub summed_all : (now : ℕ) (sums : Sums) → now ≡ taken + sums.count → (some : IsNext 21 key front taken) → (IsNext 21 key front now → ⊥)
+      → AreSumsTo front key taken sums → AreSums sums (in_cell 21 key front)
   summed_all now sums at some none so_far =
-      let holds = next_holds 21 key place front some in
-      let is = deepest_key place some in
+      let holds = next_holds 21 key taken front some in
+      let is = deepest_key taken some in
       let all : sums.count ≡ length (in_cell 21 key front) = elim (cases_lt sums.count (length (in_cell 21 key front))) [
         | inl fewer ↦ absurd (none (next_some are 21 key now is holds (omega (arith, first, at)) (omega (arith, first, at, fewer))))
         | inr from ↦ (let most = so_far.most in omega arith)
       ] in
       let range = λ (f : Body → ℕ).
-      ap (λ n. sum_by f (take n (drop place front))) all
+      ap (λ n. sum_by f (take n (drop taken front))) all
       ∙ ap (λ n. sum_by f (take (length (in_cell 21 key front)) (drop n front))) (sym first)
       ∙ ap (λ l. sum_by f (take (length (in_cell 21 key front)) (drop (first_body front (in_cell 21 key front)) l))) (sym are.sorted)
       ∙ range_sum f 21 key front is are.inside (some_length (in_cell 21 key front) holds) in

@@ -86,38 +86,38 @@ module _ {file : List ℕ} {count : ℕ} {front : List Body} (is : IsFront file 
   ahead_held : (r : ℕ) (a : Body) → slice_get front r ≡ Some a → a ≡ body_of (record_of file r)
   ahead_held r a there = same_Some a (body_of (record_of file r)) (sym there ∙ is.first.held r (slice_get_within front r a there))
 
-  pub read_next : (place : ℕ) (a : Body) (next : Option Ahead) → slice_get front place ≡ Some a → IfNone next (count ≤ place + 1)
-      → IfSome next (λ _. place + 1 < count) → IfSome next (λ _. HasBody file (place + 1))
-      → IfSome next (λ n. n.body ≡ body_of (record_of file (place + 1))) → Follows a next
-      → body_ahead (inside_of next) ≡ slice_get front (place + 1)
-  read_next place a None there none some has body follows =
+  pub read_next : (taken : ℕ) (a : Body) (next : Option Ahead) → slice_get front taken ≡ Some a → IfNone next (count ≤ taken + 1)
+      → IfSome next (λ _. taken + 1 < count) → IfSome next (λ _. HasBody file (taken + 1))
+      → IfSome next (λ n. n.body ≡ body_of (record_of file (taken + 1))) → Follows a next
+      → body_ahead (inside_of next) ≡ slice_get front (taken + 1)
+  read_next taken a None there none some has body follows =
       let most = is.most in
-      sym (slice_get_past front (place + 1) (omega arith))
-  read_next place a (Some n) there none some has body follows =
-      let within = slice_get_within front place a there in
-      let back : place + 1 - 1 ≡ place = omega arith in
-      let before : a ≡ body_of (record_of file (place + 1 - 1)) = ahead_held place a there ∙ ap (λ j. body_of (record_of file j)) (sym back) in
-      read_at (place + 1) (Some n) (omega arith) none some has body
-      (λ _. subst (λ (b : Body). precedes by_key b (body_of (record_of file (place + 1))) ≡ true) before
+      sym (slice_get_past front (taken + 1) (omega arith))
+  read_next taken a (Some n) there none some has body follows =
+      let within = slice_get_within front taken a there in
+      let back : taken + 1 - 1 ≡ taken = omega arith in
+      let before : a ≡ body_of (record_of file (taken + 1 - 1)) = ahead_held taken a there ∙ ap (λ j. body_of (record_of file j)) (sym back) in
+      read_at (taken + 1) (Some n) (omega arith) none some has body
+      (λ _. subst (λ (b : Body). precedes by_key b (body_of (record_of file (taken + 1))) ≡ true) before
       (subst (λ (b : Body). precedes by_key a b ≡ true) body follows))
 
 -- a body that doesn't follow the one before it is misplaced, and is the first where all before it are in order
-pub unfollowed : {file : List ℕ} {count : ℕ} (number place : ℕ) (a : Body) (next : Option Ahead) → ((j : ℕ) → j ≤ place → IsInOrder file j)
-    → a ≡ body_of (record_of file place)
-    → IfSome next (λ _. place + 1 < count) → IfSome next (λ n. n.body ≡ body_of (record_of file (place + 1))) → (Follows a next → ⊥)
-    → IsMisplaced number count file (page_of_body number (place + 1))
-unfollowed number place a None first there some body fails = absurd (fails tt)
-unfollowed {file = file} number place a (Some n) first there some body fails =
-    let back : place + 1 - 1 ≡ place = omega arith in
-    let before : a ≡ body_of (record_of file (place + 1 - 1)) = there ∙ ap (λ j. body_of (record_of file j)) (sym back) in
+pub unfollowed : {file : List ℕ} {count : ℕ} (number taken : ℕ) (a : Body) (next : Option Ahead) → ((j : ℕ) → j ≤ taken → IsInOrder file j)
+    → a ≡ body_of (record_of file taken)
+    → IfSome next (λ _. taken + 1 < count) → IfSome next (λ n. n.body ≡ body_of (record_of file (taken + 1))) → (Follows a next → ⊥)
+    → IsMisplaced number count file (page_of_body number (taken + 1))
+unfollowed number taken a None first there some body fails = absurd (fails tt)
+unfollowed {file = file} number taken a (Some n) first there some body fails =
+    let back : taken + 1 - 1 ≡ taken = omega arith in
+    let before : a ≡ body_of (record_of file (taken + 1 - 1)) = there ∙ ap (λ j. body_of (record_of file j)) (sym back) in
     record {
-      index = place + 1;
+      index = taken + 1;
       below = some;
       page = refl;
       first = λ j below. first j (omega arith);
       cause = λ order. fails
           (subst (λ (b : Body). precedes by_key a b ≡ true) (sym body)
-          (subst (λ (b : Body). precedes by_key b (body_of (record_of file (place + 1))) ≡ true) (sym before) (order.after (omega arith))));
+          (subst (λ (b : Body). precedes by_key b (body_of (record_of file (taken + 1))) ≡ true) (sym before) (order.after (omega arith))));
     }
 
 some_inside : (m n : Ahead) (out : Bool) → cond out None (Some m) ≡ Some n → m ≡ n
@@ -140,22 +140,22 @@ order_first file (Some m) ahead inside has n is j none =
     subst (IsInOrder file) zero (record { has = has; after = λ before. absurd (omega arith) })
 
 -- one that follows the body ahead is too
-pub order_next : (file : List ℕ) (place : ℕ) (a : Body) (read ahead : Option Ahead) → a ≡ body_of (record_of file place)
-    → ahead ≡ inside_of read → IfSome read (λ _. HasBody file (place + 1))
-    → IfSome read (λ n. n.body ≡ body_of (record_of file (place + 1))) → Follows a read
-    → ((j : ℕ) → j ≤ place → IsInOrder file j) → (n : Ahead) → ahead ≡ Some n → (j : ℕ) → j ≤ place + 1 → IsInOrder file j
-order_next file place a None ahead there inside has body follows before n is j within =
+pub order_next : (file : List ℕ) (taken : ℕ) (a : Body) (read ahead : Option Ahead) → a ≡ body_of (record_of file taken)
+    → ahead ≡ inside_of read → IfSome read (λ _. HasBody file (taken + 1))
+    → IfSome read (λ n. n.body ≡ body_of (record_of file (taken + 1))) → Follows a read
+    → ((j : ℕ) → j ≤ taken → IsInOrder file j) → (n : Ahead) → ahead ≡ Some n → (j : ℕ) → j ≤ taken + 1 → IsInOrder file j
+order_next file taken a None ahead there inside has body follows before n is j within =
     absurd (let never : None ≡ Some n = sym inside ∙ is in cc)
-order_next file place a (Some m) ahead there inside has body follows before n is j within = elim (cases_lt j (place + 1)) [
+order_next file taken a (Some m) ahead there inside has body follows before n is j within = elim (cases_lt j (taken + 1)) [
   | inl below ↦ before j (omega arith)
   | inr from ↦
-      let last : place + 1 ≡ j = omega arith in
-      let back : place + 1 - 1 ≡ place = omega arith in
-      let earlier : a ≡ body_of (record_of file (place + 1 - 1)) = there ∙ ap (λ j. body_of (record_of file j)) (sym back) in
+      let last : taken + 1 ≡ j = omega arith in
+      let back : taken + 1 - 1 ≡ taken = omega arith in
+      let earlier : a ≡ body_of (record_of file (taken + 1 - 1)) = there ∙ ap (λ j. body_of (record_of file j)) (sym back) in
       subst (IsInOrder file) last (record {
         has = has;
         after = λ _.
-            subst (λ (b : Body). precedes by_key b (body_of (record_of file (place + 1))) ≡ true) earlier
+            subst (λ (b : Body). precedes by_key b (body_of (record_of file (taken + 1))) ≡ true) earlier
             (subst (λ (b : Body). precedes by_key a b ≡ true) body follows);
       })
 ]

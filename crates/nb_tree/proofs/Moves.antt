@@ -38,11 +38,11 @@ held_back {old = old} {middle = middle} {new = new} reads later before now same 
     subst (λ l. IsHeld l new) (ap now reads.file ∙ same) held
 
 pub reads_none : (r : Reader) → Reads r r 0
-reads_none r = record { file = refl; count = refl; place = omega arith }
+reads_none r = record { file = refl; count = refl; taken = omega arith }
 
 pub reads_on : {old middle new : Reader} {m n k : ℕ} → Reads old middle m → Reads middle new n → k ≡ m + n → Reads old new k
 reads_on one two is = record {
   file = two.file ∙ one.file;
   count = two.count ∙ one.count;
-  place = omega (arith, one.place, two.place, is);
+  taken = omega (arith, one.taken, two.taken, is);
 }

@@ -26,36 +26,36 @@ pub record AreSorted (all : List Body) : Type 0 where
   pub inside : Inside all
   pub sorted : sorted_by by_key all ≡ all
 
--- the body at a place lies in the cell
-pub record IsNext (level key : ℕ) (all : List Body) (place : ℕ) : Type 0 where
+-- the body at an index lies in the cell
+pub record IsNext (level key : ℕ) (all : List Body) (taken : ℕ) : Type 0 where
   pub body : Body
-  pub there : slice_get all place ≡ Some body
+  pub there : slice_get all taken ≡ Some body
   pub lies : key_at level body.at ≡ key
 
 module _ {all : List Body} (are : AreSorted all) where
-  -- a place is that of a body of the cell exactly in the cell's range
-  pub next_within : (level key place : ℕ) → IsKeyAt level key → 0 < length (in_cell level key all) → IsNext level key all place
-      → (first_body all (in_cell level key all) ≤ place) × (place < first_body all (in_cell level key all) + length (in_cell level key all))
-  next_within level key place is some next =
-      (index_in_cell level key all is are.inside (some_length (in_cell level key all) some) place next.body
-      (ap (λ l. slice_get l place) are.sorted ∙ next.there)).0 next.lies
+  -- an index is that of a body of the cell exactly in the cell's range
+  pub next_within : (level key taken : ℕ) → IsKeyAt level key → 0 < length (in_cell level key all) → IsNext level key all taken
+      → (first_body all (in_cell level key all) ≤ taken) × (taken < first_body all (in_cell level key all) + length (in_cell level key all))
+  next_within level key taken is some next =
+      (index_in_cell level key all is are.inside (some_length (in_cell level key all) some) taken next.body
+      (ap (λ l. slice_get l taken) are.sorted ∙ next.there)).0 next.lies
 
-  pub next_some : (level key place : ℕ) → IsKeyAt level key → 0 < length (in_cell level key all)
-      → first_body all (in_cell level key all) ≤ place → place < first_body all (in_cell level key all) + length (in_cell level key all)
-      → IsNext level key all place
-  next_some level key place is some from to =
+  pub next_some : (level key taken : ℕ) → IsKeyAt level key → 0 < length (in_cell level key all)
+      → first_body all (in_cell level key all) ≤ taken → taken < first_body all (in_cell level key all) + length (in_cell level key all)
+      → IsNext level key all taken
+  next_some level key taken is some from to =
       let within = range_within level key all is are.inside (some_length (in_cell level key all) some) in
-      body_there (all_nonempty all place (omega arith)) where
+      body_there (all_nonempty all taken (omega arith)) where
         all_nonempty : (bs : List Body) (n : ℕ) → n < length bs → (b : Body) × (slice_get bs n ≡ Some b)
         all_nonempty [] n below = absurd (omega arith)
         all_nonempty (b ∷ bs) n below = (get_or (b ∷ bs) n b, slice_get-get_or (b ∷ bs) n b below)
 
-        body_there : (b : Body) × (slice_get all place ≡ Some b) → IsNext level key all place
+        body_there : (b : Body) × (slice_get all taken ≡ Some b) → IsNext level key all taken
         body_there (b, there) = record {
           body = b;
           there = there;
-          lies = (index_in_cell level key all is are.inside (some_length (in_cell level key all) some) place b
-              (ap (λ l. slice_get l place) are.sorted ∙ there)).1 (from, to);
+          lies = (index_in_cell level key all is are.inside (some_length (in_cell level key all) some) taken b
+              (ap (λ l. slice_get l taken) are.sorted ∙ there)).1 (from, to);
         }
 
 holds_some : (p : Body → Bool) (bs : List Body) (n : ℕ) (b : Body) → slice_get bs n ≡ Some b → p b ≡ true → 0 < length (filter p bs)
@@ -71,9 +71,9 @@ holds_some p (c ∷ cs) (suc n) b there is =
     ]
 
 -- a cell in which the next body lies has a body
-pub next_holds : (level key place : ℕ) (all : List Body) → IsNext level key all place → 0 < length (in_cell level key all)
-next_holds level key place all next =
-    holds_some (λ b. eqb (key_at level b.at) key) all place next.body next.there (eq-eqb (key_at level next.body.at) key next.lies)
+pub next_holds : (level key taken : ℕ) (all : List Body) → IsNext level key all taken → 0 < length (in_cell level key all)
+next_holds level key taken all next =
+    holds_some (λ b. eqb (key_at level b.at) key) all taken next.body next.there (eq-eqb (key_at level next.body.at) key next.lies)
 
 -- ---- the octants of a cell
 
@@ -145,28 +145,28 @@ module _ {all : List Body} (are : AreSorted all) (level next key : ℕ) (is : Is
       let at : first_body all (in_octant level (in_cell level key all) octant) ≡ first_body all (child octant) = ap (first_body all) same in
       omega (arith, first, sums, at)
 
-  module _ (place : ℕ) where
+  module _ (taken : ℕ) where
     -- the octants before this one were gone through
     abbrev IsPast : ℕ → Type 0
-    IsPast n = place ≡ first_body all (in_cell level key all) + over length n
+    IsPast n = taken ≡ first_body all (in_cell level key all) + over length n
 
-    pub empty_past : (n : ℕ) → n < 8 → IsPast n → (IsNext next (8 * key + n) all place → ⊥) → length (child n) ≡ 0
+    pub empty_past : (n : ℕ) → n < 8 → IsPast n → (IsNext next (8 * key + n) all taken → ⊥) → length (child n) ≡ 0
     empty_past n below past none = elim (cases_lt 0 (length (child n))) [
       | inl some ↦
           let first = first_child n below some in
-          absurd (none (next_some are next (8 * key + n) place (child_key n below) some (omega (arith, first, past)) (omega (arith, first, past, some))))
+          absurd (none (next_some are next (8 * key + n) taken (child_key n below) some (omega (arith, first, past)) (omega (arith, first, past, some))))
       | inr empty ↦ omega arith
     ]
 
-    pub begins : (octant : ℕ) → octant < 8 → IsPast octant → IsNext next (8 * key + octant) all place
-        → first_body all (child octant) ≡ place
-    begins octant below past lies = first_child octant below (next_holds next (8 * key + octant) place all lies) ∙ sym past
+    pub begins : (octant : ℕ) → octant < 8 → IsPast octant → IsNext next (8 * key + octant) all taken
+        → first_body all (child octant) ≡ taken
+    begins octant below past lies = first_child octant below (next_holds next (8 * key + octant) taken all lies) ∙ sym past
 
-    pub isnt_past : (n octant : ℕ) → n ≤ 8 → octant < 8 → IsPast n → IsNext next (8 * key + octant) all place → n ≤ octant
+    pub isnt_past : (n octant : ℕ) → n ≤ 8 → octant < 8 → IsPast n → IsNext next (8 * key + octant) all taken → n ≤ octant
     isnt_past n octant within below past lies = elim (cases_lt octant n) [
       | inl before ↦
-          let some = next_holds next (8 * key + octant) place all lies in
-          let range = next_within are next (8 * key + octant) place (child_key octant below) some lies in
+          let some = next_holds next (8 * key + octant) taken all lies in
+          let range = next_within are next (8 * key + octant) taken (child_key octant below) some lies in
           let first = first_child octant below some in
           let more = over_more length octant below in
           let up_to : octant + 1 + (n - (octant + 1)) ≡ n = omega arith in
@@ -177,13 +177,13 @@ module _ {all : List Body} (are : AreSorted all) (level next key : ℕ) (is : Is
     ]
 
     -- octants of one cell are told apart by the next body
-    pub one_next : (n octant : ℕ) → IsNext next (8 * key + n) all place → IsNext next (8 * key + octant) all place → n ≡ octant
+    pub one_next : (n octant : ℕ) → IsNext next (8 * key + n) all taken → IsNext next (8 * key + octant) all taken → n ≡ octant
     one_next n octant one other =
         let same : one.body ≡ other.body = same_Some one.body other.body (sym one.there ∙ other.there) in
         let keys : 8 * key + n ≡ 8 * key + octant = sym one.lies ∙ ap (λ (b : Body). key_at next b.at) same ∙ other.lies in
         omega arith
 
-    pub next_in_cell : (octant : ℕ) → octant < 8 → IsNext next (8 * key + octant) all place → IsNext level key all place
+    pub next_in_cell : (octant : ℕ) → octant < 8 → IsNext next (8 * key + octant) all taken → IsNext level key all taken
     next_in_cell octant below lies =
         let at : suc level ≡ next = omega arith in
         record {

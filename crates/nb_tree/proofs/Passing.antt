@@ -111,10 +111,10 @@ deepest_passed params all depth key file m c deep same none are first =
 -- ---- with levels below it
 
 -- The pass has gone through the first octants of the cell, which has so many levels below it: n of them, with these cells put.
-pub record IsReadTo (params : Params) (all : List Body) (depth key place : ℕ) (sums : Sums) (kids : ℕ) (kept : List Cell) (before : List ℕ) (old : Maker) (now : List ℕ) (new : Maker) : Type 0 where
+pub record IsReadTo (params : Params) (all : List Body) (depth key taken : ℕ) (sums : Sums) (kids : ℕ) (kept : List Cell) (before : List ℕ) (old : Maker) (now : List ℕ) (new : Maker) : Type 0 where
   pub n : ℕ
   pub puts : List Cell
-  pub read : HasRead params all (depth - 1) (21 - depth) (21 - (depth - 1)) key n place sums kids puts kept
+  pub read : HasRead params all (depth - 1) (21 - depth) (21 - (depth - 1)) key n taken sums kids puts kept
   pub inserts : Inserts puts before old now new
 
 module _ (params : Params) {all : List Body} (are : AreSorted all) (depth key : ℕ) (some_depth : 0 < depth) (few : depth ≤ 21) (is : IsKeyAt (21 - depth) key) where
@@ -124,65 +124,65 @@ module _ (params : Params) {all : List Body} (are : AreSorted all) (depth key : 
   above : 21 - depth < 21
   above = omega arith
 
-  pub begins_read : (place : ℕ) (sums : Sums) (file : List ℕ) (m : Maker) → first_body all (in_cell (21 - depth) key all) ≡ place
-      → sums ≡ record { count = 0; mass = 0; x = 0; y = 0; z = 0 } → IsReadTo params all depth key place sums 0 [] file m file m
-  begins_read place sums file m first none = record {
+  pub begins_read : (taken : ℕ) (sums : Sums) (file : List ℕ) (m : Maker) → first_body all (in_cell (21 - depth) key all) ≡ taken
+      → sums ≡ record { count = 0; mass = 0; x = 0; y = 0; z = 0 } → IsReadTo params all depth key taken sums 0 [] file m file m
+  begins_read taken sums file m first none = record {
     n = 0;
     puts = [];
-    read = read_none params are (depth - 1) (21 - depth) (21 - (depth - 1)) key is up above refl place sums (sym first) none;
+    read = read_none params are (depth - 1) (21 - depth) (21 - (depth - 1)) key is up above refl taken sums (sym first) none;
     inserts = inserts_none file m;
   }
 
   -- the pass comes to the octant in which the next body lies
-  pub record IsBegun (octant place : ℕ) (sums : Sums) (kids : ℕ) (kept : List Cell) (before : List ℕ) (old : Maker) (now : List ℕ) (new : Maker) : Type 0 where
+  pub record IsBegun (octant taken : ℕ) (sums : Sums) (kids : ℕ) (kept : List Cell) (before : List ℕ) (old : Maker) (now : List ℕ) (new : Maker) : Type 0 where
     pub puts : List Cell
-    pub read : HasRead params all (depth - 1) (21 - depth) (21 - (depth - 1)) key octant place sums kids puts kept
+    pub read : HasRead params all (depth - 1) (21 - depth) (21 - (depth - 1)) key octant taken sums kids puts kept
     pub inserts : Inserts puts before old now new
-    pub first : first_body all (in_cell (21 - (depth - 1)) (8 * key + octant) all) ≡ place
+    pub first : first_body all (in_cell (21 - (depth - 1)) (8 * key + octant) all) ≡ taken
     pub some : 0 < length (in_cell (21 - (depth - 1)) (8 * key + octant) all)
 
-  module _ {place : ℕ} {sums : Sums} {kids : ℕ} {kept : List Cell} {before now : List ℕ} {old new : Maker} (to : IsReadTo params all depth key place sums kids kept before old now new) where
-    pub comes_to : (octant : ℕ) → octant < 8 → IsNext (21 - (depth - 1)) (8 * key + octant) all place
-        → IsBegun octant place sums kids kept before old now new
+  module _ {taken : ℕ} {sums : Sums} {kids : ℕ} {kept : List Cell} {before now : List ℕ} {old new : Maker} (to : IsReadTo params all depth key taken sums kids kept before old now new) where
+    pub comes_to : (octant : ℕ) → octant < 8 → IsNext (21 - (depth - 1)) (8 * key + octant) all taken
+        → IsBegun octant taken sums kids kept before old now new
     comes_to octant below next =
         let level = 21 - depth in
         let deeper = 21 - (depth - 1) in
-        let from = isnt_past are level deeper key is up above place to.n octant to.read.within below to.read.at next in
+        let from = isnt_past are level deeper key is up above taken to.n octant to.read.within below to.read.at next in
         let steps : to.n + (octant - to.n) ≡ octant = omega arith in
-        let read = subst (λ m. HasRead params all (depth - 1) level deeper key m place sums kids to.puts kept) steps
-        (read_skip params are (depth - 1) level deeper key is up above refl (octant - to.n) to.n place sums kids to.puts kept (omega arith)
-        (λ other least less other_next. absurd (let same = one_next are level deeper key is up above place other octant other_next next in omega arith))
+        let read = subst (λ m. HasRead params all (depth - 1) level deeper key m taken sums kids to.puts kept) steps
+        (read_skip params are (depth - 1) level deeper key is up above refl (octant - to.n) to.n taken sums kids to.puts kept (omega arith)
+        (λ other least less other_next. absurd (let same = one_next are level deeper key is up above taken other octant other_next next in omega arith))
         to.read) in
         record {
           puts = to.puts;
           read = read;
           inserts = to.inserts;
-          first = begins are level deeper key is up above place octant below read.at next;
-          some = next_holds deeper (8 * key + octant) place all next;
+          first = begins are level deeper key is up above taken octant below read.at next;
+          some = next_holds deeper (8 * key + octant) taken all next;
         }
 
     -- all octants were gone through
-    pub comes_to_end : (IsNext (21 - depth) key all place → ⊥)
-        → HasRead params all (depth - 1) (21 - depth) (21 - (depth - 1)) key 8 place sums kids to.puts kept
+    pub comes_to_end : (IsNext (21 - depth) key all taken → ⊥)
+        → HasRead params all (depth - 1) (21 - depth) (21 - (depth - 1)) key 8 taken sums kids to.puts kept
     comes_to_end none =
         let level = 21 - depth in
         let deeper = 21 - (depth - 1) in
         let steps : to.n + (8 - to.n) ≡ 8 = (let within = to.read.within in omega arith) in
         let within = to.read.within in
-        subst (λ m. HasRead params all (depth - 1) level deeper key m place sums kids to.puts kept) steps
-        (read_skip params are (depth - 1) level deeper key is up above refl (8 - to.n) to.n place sums kids to.puts kept (omega arith)
-        (λ other least less next. none (next_in_cell are level deeper key is up above place other (omega arith) next))
+        subst (λ m. HasRead params all (depth - 1) level deeper key m taken sums kids to.puts kept) steps
+        (read_skip params are (depth - 1) level deeper key is up above refl (8 - to.n) to.n taken sums kids to.puts kept (omega arith)
+        (λ other least less next. none (next_in_cell are level deeper key is up above taken other (omega arith) next))
         to.read)
 
   -- the octant is closed
-  pub goes_past : {octant place : ℕ} {sums : Sums} {kids : ℕ} {kept : List Cell} {before now after : List ℕ} {old new later : Maker} (sum : Sums) (c : Closed)
-      (then_place : ℕ) → octant < 8 → IsBegun octant place sums kids kept before old now new
-      → HasPassed params all (depth - 1) (8 * key + octant) now new after later c → IsPlus sums c.sums sum → then_place ≡ place + c.sums.count
+  pub goes_past : {octant taken : ℕ} {sums : Sums} {kids : ℕ} {kept : List Cell} {before now after : List ℕ} {old new later : Maker} (sum : Sums) (c : Closed)
+      (then_place : ℕ) → octant < 8 → IsBegun octant taken sums kids kept before old now new
+      → HasPassed params all (depth - 1) (8 * key + octant) now new after later c → IsPlus sums c.sums sum → then_place ≡ taken + c.sums.count
       → IsReadTo params all depth key then_place sum (bit_or kids ((1 * 2 ^ octant) % 256)) (kept ++ cell_closed c ∷ []) before old after later
-  goes_past {octant = octant} {place = place} {sums = sums} {kids = kids} {kept = kept} sum c then_place below begun passed plus on = record {
+  goes_past {octant = octant} {taken = taken} {sums = sums} {kids = kids} {kept = kept} sum c then_place below begun passed plus on = record {
     n = octant + 1;
     puts = begun.puts ++ put_below params all (depth - 1) (8 * key + octant);
-    read = read_octant params are (depth - 1) (21 - depth) (21 - (depth - 1)) key is up above refl octant place then_place sums c.sums sum kids begun.puts kept (cell_closed c)
+    read = read_octant params are (depth - 1) (21 - depth) (21 - (depth - 1)) key is up above refl octant taken then_place sums c.sums sum kids begun.puts kept (cell_closed c)
         below begun.some begun.read passed.sums plus on passed.cell;
     inserts = inserts_then begun.inserts passed.inserts;
   }
@@ -226,9 +226,9 @@ module _ (params : Params) {all : List Body} (are : AreSorted all) (depth key : 
       ap (λ d. put_below params all d key) one_less
       ∙ put_divided params all (depth - 1) key (subst (λ l. params.leaf < length (in_cell l key all)) level_is many)
 
-  module _ {place : ℕ} {sums : Sums} {kids : ℕ} {puts kept : List Cell} (read : HasRead params all (depth - 1) (21 - depth) (21 - (depth - 1)) key 8 place sums kids puts kept) where
+  module _ {taken : ℕ} {sums : Sums} {kids : ℕ} {puts kept : List Cell} (read : HasRead params all (depth - 1) (21 - depth) (21 - (depth - 1)) key 8 taken sums kids puts kept) where
     pub all_sums : AreSums sums (in_cell (21 - depth) key all)
-    all_sums = read_all params are (depth - 1) (21 - depth) (21 - (depth - 1)) key is up above refl place sums kids puts kept read
+    all_sums = read_all params are (depth - 1) (21 - depth) (21 - (depth - 1)) key is up above refl taken sums kids puts kept read
 
     pub leaf_passed : {before now : List ℕ} {old new : Maker} (c : Closed) → sums.count ≤ params.leaf → c.key ≡ key → c.sums ≡ sums → c.kids ≡ 0
         → first_body all (in_cell (21 - depth) key all) ≡ c.first → Inserts puts before old now new → HasPassed params all depth key before old now new c
@@ -254,7 +254,7 @@ module _ (params : Params) {all : List Body} (are : AreSorted all) (depth key : 
         let apart : (21 - depth) ≢ 21 = λ same. omega arith in
         record {
           cell = closed_is params all (21 - depth) key c same (subst (λ (s : Sums). AreSums s (in_cell (21 - depth) key all)) (sym sums_are) all_sums) first
-              (kids_are ∙ read_all_kids params are (depth - 1) (21 - depth) (21 - (depth - 1)) key is up above refl place sums kids puts kept read
+              (kids_are ∙ read_all_kids params are (depth - 1) (21 - depth) (21 - (depth - 1)) key is up above refl taken sums kids puts kept read
               ∙ sym (cond-false (leb (length (in_cell (21 - depth) key all)) params.leaf || eqb (21 - depth) 21) 0 (kids_of (21 - depth) (in_cell (21 - depth) key all))
               (ap (λ t. t || eqb (21 - depth) 21) (lt-leb (length (in_cell (21 - depth) key all)) params.leaf many_are) ∙ ne_eqb (21 - depth) 21 apart)));
           sums = subst (λ (s : Sums). AreSums s (in_cell (21 - depth) key all)) (sym sums_are) all_sums;
@@ -263,8 +263,8 @@ module _ (params : Params) {all : List Body} (are : AreSorted all) (depth key : 
 
   -- ---- what may stand with an octant's cells
 
-  pub may_octant : (cells : List Cell) {octant place : ℕ} {sums : Sums} {kids : ℕ} {puts kept : List Cell} → octant < 8
-      → HasRead params all (depth - 1) (21 - depth) (21 - (depth - 1)) key octant place sums kids puts kept
+  pub may_octant : (cells : List Cell) {octant taken : ℕ} {sums : Sums} {kids : ℕ} {puts kept : List Cell} → octant < 8
+      → HasRead params all (depth - 1) (21 - depth) (21 - (depth - 1)) key octant taken sums kids puts kept
       → MayStand (cells ++ put_below params all depth key) → MayStand ((cells ++ puts) ++ put_below params all (depth - 1) (8 * key + octant))
   may_octant cells {octant = octant} {puts = puts} below read may =
       let put = λ (o : ℕ). put_below params all (depth - 1) (8 * key + o) in
@@ -287,8 +287,8 @@ module _ (params : Params) {all : List Body} (are : AreSorted all) (depth key : 
       ]
 
   -- what a closing makes, whether the cell is a leaf or not
-  pub end_passed : {place : ℕ} {sums : Sums} {kids : ℕ} {puts kept : List Cell} {before now after : List ℕ} {old middle new : Maker} (c : Closed)
-      → HasRead params all (depth - 1) (21 - depth) (21 - (depth - 1)) key 8 place sums kids puts kept
+  pub end_passed : {taken : ℕ} {sums : Sums} {kids : ℕ} {puts kept : List Cell} {before now after : List ℕ} {old middle new : Maker} (c : Closed)
+      → HasRead params all (depth - 1) (21 - depth) (21 - (depth - 1)) key 8 taken sums kids puts kept
       → c.key ≡ key → c.sums ≡ sums → c.kids ≡ cond (leb sums.count params.leaf) 0 kids
       → first_body all (in_cell (21 - depth) key all) ≡ c.first → Inserts puts before old now middle
       → Inserts (cond (leb sums.count params.leaf) [] kept) now middle after new → HasPassed params all depth key before old after new c

@@ -102,11 +102,11 @@ bit_added n kids small below =
 
 -- ---- the first n octants
 
--- The first n octants of the cell at this level with this key were gone through, up to this place. The sums are those of their
+-- The first n octants of the cell at this level with this key were gone through, with so many bodies taken. The sums are those of their
 -- bodies, the kids have their bits, these cells were put, and these are kept.
-pub record HasRead (params : Params) (all : List Body) (depth level next key n place : ℕ) (sums : Sums) (kids : ℕ) (puts kept : List Cell) : Type 0 where
+pub record HasRead (params : Params) (all : List Body) (depth level next key n taken : ℕ) (sums : Sums) (kids : ℕ) (puts kept : List Cell) : Type 0 where
   pub within : n ≤ 8
-  pub at : place ≡ first_body all (in_cell level key all) + over_of all next key length n
+  pub at : taken ≡ first_body all (in_cell level key all) + over_of all next key length n
   pub count : sums.count ≡ over_of all next key length n
   pub mass : sums.mass ≡ over_of all next key total_mass n
   pub x : sums.x ≡ over_of all next key (sum_by (λ b. b.mass * b.at.x)) n
@@ -125,10 +125,10 @@ module _ (params : Params) {all : List Body} (are : AreSorted all) (depth level 
   lies_at : (n : ℕ) → length (in_cell (21 - depth) (8 * key + n) all) ≡ length (in_cell next (8 * key + n) all)
   lies_at n = ap (λ l. length (in_cell l (8 * key + n) all)) (sym deep)
 
-  pub read_none : (place : ℕ) (sums : Sums) → place ≡ first_body all (in_cell level key all)
-      → sums ≡ record { count = 0; mass = 0; x = 0; y = 0; z = 0 } → Read 0 place sums 0 [] []
+  pub read_none : (taken : ℕ) (sums : Sums) → taken ≡ first_body all (in_cell level key all)
+      → sums ≡ record { count = 0; mass = 0; x = 0; y = 0; z = 0 } → Read 0 taken sums 0 [] []
   unfolding kids_upto
-  read_none place sums first none = record {
+  read_none taken sums first none = record {
     within = omega arith;
     at = omega arith;
     count = ap (λ (s : Sums). s.count) none;
@@ -149,9 +149,9 @@ module _ (params : Params) {all : List Body} (are : AreSorted all) (depth level 
       sum_by_more f octants n 0 below ∙ ap (λ o. sum_by f (take n octants) + f o) (octant_number n below)
 
   -- an octant without bodies
-  pub read_empty : (n place : ℕ) (sums : Sums) (kids : ℕ) (puts kept : List Cell) → n < 8
-      → length (in_cell next (8 * key + n) all) ≡ 0 → Read n place sums kids puts kept → Read (n + 1) place sums kids puts kept
-  read_empty n place sums kids puts kept below none so_far =
+  pub read_empty : (n taken : ℕ) (sums : Sums) (kids : ℕ) (puts kept : List Cell) → n < 8
+      → length (in_cell next (8 * key + n) all) ≡ 0 → Read n taken sums kids puts kept → Read (n + 1) taken sums kids puts kept
+  read_empty n taken sums kids puts kept below none so_far =
       let empty = no_bodies (in_cell next (8 * key + n) all) none in
       let stays : (f : List Body → ℕ) → f [] ≡ 0 → over_of all next key f n ≡ over_of all next key f (n + 1) = λ f zero_is.
       (let last : f (in_cell next (8 * key + n) all) ≡ 0 = ap f empty ∙ zero_is in
@@ -182,11 +182,11 @@ module _ (params : Params) {all : List Body} (are : AreSorted all) (depth level 
       }
 
   -- an octant whose bodies were all read
-  pub read_octant : (n place later : ℕ) (sums one sum : Sums) (kids : ℕ) (puts kept : List Cell) (cell : Cell) → n < 8
-      → 0 < length (in_cell next (8 * key + n) all) → Read n place sums kids puts kept → AreSums one (in_cell next (8 * key + n) all) → IsPlus sums one sum
-      → later ≡ place + one.count → cell ≡ finished params all next (8 * key + n)
+  pub read_octant : (n taken later : ℕ) (sums one sum : Sums) (kids : ℕ) (puts kept : List Cell) (cell : Cell) → n < 8
+      → 0 < length (in_cell next (8 * key + n) all) → Read n taken sums kids puts kept → AreSums one (in_cell next (8 * key + n) all) → IsPlus sums one sum
+      → later ≡ taken + one.count → cell ≡ finished params all next (8 * key + n)
       → Read (n + 1) later sum (bit_or kids ((1 * 2 ^ n) % 256)) (puts ++ put_below params all depth (8 * key + n)) (kept ++ cell ∷ [])
-  read_octant n place later sums one sum kids puts kept cell below some so_far are_one plus on is_cell =
+  read_octant n taken later sums one sum kids puts kept cell below some so_far are_one plus on is_cell =
       let bit : cond (ltb 0 (length (in_cell next (8 * key + n) all))) (2 ^ n) 0 ≡ 2 ^ n =
       cond-true (ltb 0 (length (in_cell next (8 * key + n) all))) (2 ^ n) 0 (lt-ltb 0 (length (in_cell next (8 * key + n) all)) some) in
       let added = bit_added n kids so_far.small below in
@@ -214,22 +214,22 @@ module _ (params : Params) {all : List Body} (are : AreSorted all) (depth level 
       }
 
   -- octants in which the next body doesn't lie, up to one
-  pub read_skip : (more n place : ℕ) (sums : Sums) (kids : ℕ) (puts kept : List Cell) → n + more ≤ 8
-      → ((octant : ℕ) → n ≤ octant → octant < n + more → IsNext next (8 * key + octant) all place → ⊥)
-      → Read n place sums kids puts kept → Read (n + more) place sums kids puts kept
-  read_skip zero n place sums kids puts kept within none so_far =
+  pub read_skip : (more n taken : ℕ) (sums : Sums) (kids : ℕ) (puts kept : List Cell) → n + more ≤ 8
+      → ((octant : ℕ) → n ≤ octant → octant < n + more → IsNext next (8 * key + octant) all taken → ⊥)
+      → Read n taken sums kids puts kept → Read (n + more) taken sums kids puts kept
+  read_skip zero n taken sums kids puts kept within none so_far =
       let same : n ≡ n + zero = omega arith in
-      subst (λ m. Read m place sums kids puts kept) same so_far
-  read_skip (suc more) n place sums kids puts kept within none so_far =
-      let empty = empty_past are level next key is up above place n (omega arith) so_far.at (none n (omega arith) (omega arith)) in
+      subst (λ m. Read m taken sums kids puts kept) same so_far
+  read_skip (suc more) n taken sums kids puts kept within none so_far =
+      let empty = empty_past are level next key is up above taken n (omega arith) so_far.at (none n (omega arith) (omega arith)) in
       let same : n + 1 + more ≡ n + suc more = omega arith in
-      subst (λ m. Read m place sums kids puts kept) same
-      (read_skip more (n + 1) place sums kids puts kept (omega arith) (λ octant from to. none octant (omega arith) (omega arith))
-      (read_empty n place sums kids puts kept (omega arith) empty so_far))
+      subst (λ m. Read m taken sums kids puts kept) same
+      (read_skip more (n + 1) taken sums kids puts kept (omega arith) (λ octant from to. none octant (omega arith) (omega arith))
+      (read_empty n taken sums kids puts kept (omega arith) empty so_far))
 
   -- all of them
-  pub read_all : (place : ℕ) (sums : Sums) (kids : ℕ) (puts kept : List Cell) → Read 8 place sums kids puts kept → AreSums sums (in_cell level key all)
-  read_all place sums kids puts kept so_far = record {
+  pub read_all : (taken : ℕ) (sums : Sums) (kids : ℕ) (puts kept : List Cell) → Read 8 taken sums kids puts kept → AreSums sums (in_cell level key all)
+  read_all taken sums kids puts kept so_far = record {
     count = so_far.count ∙ over_count are level next key is up above;
     mass = so_far.mass ∙ over_all are level next key is up above (λ b. b.mass);
     x = so_far.x ∙ over_all are level next key is up above (λ b. b.mass * b.at.x);
@@ -254,5 +254,5 @@ module _ (params : Params) {all : List Body} (are : AreSorted all) (depth level 
       ap (λ m. sum_by g (take m octants)) next_one ∙ sum_by_more g octants n 0 below ∙ ap (λ o. sum_by g (take n octants) + g o) (octant_number n below) in
       one ∙ ap (λ m. m + f n) rest ∙ ap (λ m. sum_by g (take n octants) + m) last ∙ sym other
 
-  pub read_all_kids : (place : ℕ) (sums : Sums) (kids : ℕ) (puts kept : List Cell) → Read 8 place sums kids puts kept → kids ≡ kids_of level (in_cell level key all)
-  read_all_kids place sums kids puts kept so_far = so_far.bits ∙ bits_all 8 (omega arith)
+  pub read_all_kids : (taken : ℕ) (sums : Sums) (kids : ℕ) (puts kept : List Cell) → Read 8 taken sums kids puts kept → kids ≡ kids_of level (in_cell level key all)
+  read_all_kids taken sums kids puts kept so_far = so_far.bits ∙ bits_all 8 (omega arith)

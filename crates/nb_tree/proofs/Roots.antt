@@ -34,7 +34,7 @@ lies_in_root r some = let next = some_of r.ahead some in record { next = next.0;
 pub root_all : (front : List Body) → in_cell 0 1 front ≡ front
 root_all front = in_root front
 
-pub empty_front : (front : List Body) (r : Reader) → IsAt front r → r.ahead ≡ None → r.place ≡ 0 → front ≡ []
+pub empty_front : (front : List Body) (r : Reader) → IsAt front r → r.ahead ≡ None → r.taken ≡ 0 → front ≡ []
 empty_front [] r at none first = refl
 empty_front (b ∷ bs) r at none first =
     let nothing : None ≡ slice_get (b ∷ bs) 0 = ap body_ahead (sym none) ∙ at ∙ ap (slice_get (b ∷ bs)) first in
@@ -58,6 +58,6 @@ root_first front are = elim (cases_lt 0 (length front)) [
   empty_first [] few = refl
   empty_first (b ∷ bs) few = absurd (omega arith)
 
-pub root_kid : (params : Params) (front : List Body) → AreSorted front → (place : ℕ) → IsNext 0 1 front place
+pub root_kid : (params : Params) (front : List Body) → AreSorted front → (taken : ℕ) → IsNext 0 1 front taken
     → kid params front 0 1 ≡ finished params front 0 1 ∷ []
-root_kid params front are place next = kid_some params front 0 1 (next_holds 0 1 place front next)
+root_kid params front are taken next = kid_some params front 0 1 (next_holds 0 1 taken front next)

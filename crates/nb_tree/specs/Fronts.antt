@@ -4,7 +4,7 @@ use Rattle.nb_model.specs.declared.body.Body.{Body}
 use Rattle.nb_record.specs.Records.{body_of}
 use Rattle.nb_record.specs.Order.{by_key, precedes, record_of}
 use Rattle.nb_order.specs.Files.{HasBody}
-use Rattle.nb_order.specs.Places.{HasFirst}
+use Rattle.nb_order.specs.Indexes.{HasFirst}
 
 -- Body j stands in the file, and the one before it, if there is one, precedes it in Morton order.
 pub record IsInOrder (file : List ℕ) (j : ℕ) : Type 0 where

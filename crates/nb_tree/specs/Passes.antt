@@ -47,10 +47,10 @@ body_ahead (Some next) = Some next.body
 pub record IsReader (r : Reader) : Type 0 where
   pub file : IsCachedFile r.file
   pub count : r.count ≤ most_bodies
-  pub place : r.place ≤ r.count
+  pub taken : r.taken ≤ r.count
   pub ahead : (next : Ahead) → r.ahead ≡ Some next → IsAhead next
   pub inside : (next : Ahead) → r.ahead ≡ Some next → next.body.out ≡ false
-  pub more : (next : Ahead) → r.ahead ≡ Some next → r.place < r.count
+  pub more : (next : Ahead) → r.ahead ≡ Some next → r.taken < r.count
 
 -- the body ahead lies in the cell at this level with this key
 pub record LiesIn (level key : ℕ) (r : Reader) : Type 0 where
@@ -62,16 +62,16 @@ pub record LiesIn (level key : ℕ) (r : Reader) : Type 0 where
 pub record Reads (old new : Reader) (n : ℕ) : Type 0 where
   pub file : new.file ≡ old.file
   pub count : new.count ≡ old.count
-  pub place : new.place ≡ old.place + n
+  pub taken : new.taken ≡ old.taken + n
 
--- the body ahead is the one of these at the reader's place
+-- the body ahead is the one of these behind those that were taken
 abbrev pub IsAt : List Body → Reader → Type 0
-IsAt bodies r = body_ahead r.ahead ≡ slice_get bodies r.place
+IsAt bodies r = body_ahead r.ahead ≡ slice_get bodies r.taken
 
--- the body ahead is that of the file at the reader's place, and each one up to it is in order
+-- the body ahead is that of the file behind those that were taken, and each one up to it is in order
 pub record IsHeld (file : List ℕ) (r : Reader) : Type 0 where
-  pub body : (next : Ahead) → r.ahead ≡ Some next → next.body ≡ body_of (record_of file r.place)
-  pub order : (next : Ahead) → r.ahead ≡ Some next → (j : ℕ) → j ≤ r.place → IsInOrder file j
+  pub body : (next : Ahead) → r.ahead ≡ Some next → next.body ≡ body_of (record_of file r.taken)
+  pub order : (next : Ahead) → r.ahead ≡ Some next → (j : ℕ) → j ≤ r.taken → IsInOrder file j
 
 -- ---- sums, and a cell that is closed
 

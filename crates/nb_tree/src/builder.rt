@@ -19,7 +19,7 @@ ghost use Rattle.nb_tree.specs.Passes.{HoldsCells, MayStand, Inserts, put_below,
 
 use crate::maker::Maker;
 use crate::pass::{Waiting, pass};
-use crate::reader::{Reader, page_name};
+use crate::reader::Reader;
 use crate::sums::Sums;
 use crate::tree_error::TreeError;
 use nb_cache::Cache;
@@ -27,6 +27,7 @@ use nb_cell::CellTable;
 use nb_host::Host;
 use nb_key::Key;
 use nb_model::{DEEPEST_LEVEL, GM_LIMIT, Params};
+use nb_order::page_name;
 use nb_record::Tree;
 use smallvec::SmallVec;
 use std::alloc::Global;
@@ -110,7 +111,7 @@ fn root<H: Host>(
     requires reader { IsReader reader.old }
     requires maker { IsMaker maker.old }
     requires apart { reader.old.file ≢ maker.old.table.file }
-    requires begins { reader.old.place ≡ 0 }
+    requires begins { reader.old.taken ≡ 0 }
     requires in_step { IsInStep H.meaning cache.old host.old }
     ensures maker { IsMaker maker.new }
     ensures same { SameMaker maker.old maker.new }

@@ -62,7 +62,7 @@ pub(crate) fn pass<H: Host>(
     ensures passed { IfOk result (λ closed. IsTrue H.meaning.tells → (params : Params) (front : List Bodies)
         → params.leaf ≡ maker.old.leaf
         → IsFront (seen H.meaning cache.old host.old reader.old.file) reader.old.count front
-        → IsAt front reader.old → first_body front (in_cell (21 - depth) key front) ≡ reader.old.place
+        → IsAt front reader.old → first_body front (in_cell (21 - depth) key front) ≡ reader.old.taken
         → HasPassed params front depth key
         (seen H.meaning cache.old host.old maker.old.table.file) maker.old
         (seen H.meaning cache.new host.new maker.old.table.file) maker.new closed) }
@@ -77,13 +77,13 @@ pub(crate) fn pass<H: Host>(
         ⊎ ((params : Params) (front : List Bodies) (cells : List Cells)
         → params.leaf ≡ maker.old.leaf
         → IsFront (seen H.meaning cache.old host.old reader.old.file) reader.old.count front
-        → IsAt front reader.old → first_body front (in_cell (21 - depth) key front) ≡ reader.old.place
+        → IsAt front reader.old → first_body front (in_cell (21 - depth) key front) ≡ reader.old.taken
         → HoldsCells (seen H.meaning cache.old host.old maker.old.table.file) maker.old cells
         → MayStand (cells ++ put_below params front depth key) → ⊥) }
     ensures ran { RanCached H.meaning TreeError.Fault (maker.old.table.file ∷ []) cache.old host.old
         cache.new host.new result }
 {
-    let first = reader.place;
+    let first = reader.taken;
     if depth == 0 {
         let sums = add_bodies(host, cache, reader, key)?;
         return Ok(Closed {
@@ -134,7 +134,7 @@ fn add_bodies<H: Host>(
         → IsAt front reader.old → IsAt front reader.new) }
     ensures sums { IfOk result (λ sums. IsTrue H.meaning.tells → (front : List Bodies)
         → IsFront (seen H.meaning cache.old host.old reader.old.file) reader.old.count front
-        → IsAt front reader.old → first_body front (in_cell 21 key front) ≡ reader.old.place
+        → IsAt front reader.old → first_body front (in_cell 21 key front) ≡ reader.old.taken
         → AreSums sums (in_cell 21 key front)) }
     ensures named { (name : PageNames) → result ≡ Err (TreeError.Damaged name)
         → name.file ≡ reader.old.file }

@@ -19,11 +19,10 @@ ghost use Rattle.nb_tree.specs.Passes.{LiesIn, IsAt, IsHeld, Reads};
 
 use crate::tree_error::TreeError;
 use nb_cache::Cache;
-use nb_host::{Host, PageName};
+use nb_host::Host;
 use nb_key::Key;
 use nb_model::Body;
-use nb_order::body_at;
-use nb_record::BODIES_PER_PAGE;
+use nb_order::{body_at, page_name};
 
 /// The bits of a key that an octant takes.
 const OCTANT_BITS: u32 = 3;
@@ -45,7 +44,7 @@ pub(crate) struct Reader {
     pub(crate) file: u64,
     pub(crate) count: u64,
     /// How many bodies were taken.
-    pub(crate) place: u64,
+    pub(crate) taken: u64,
     pub(crate) ahead: Option<Ahead>,
 }
 
@@ -61,7 +60,7 @@ impl Reader {
         requires count { count ≤ most_bodies }
         requires in_step { IsInStep H.meaning cache.old host.old }
         ensures reader { IfOk result IsReader }
-        ensures fields { IfOk result (λ r. (r.file ≡ file) × (r.count ≡ count) × (r.place ≡ 0)) }
+        ensures fields { IfOk result (λ r. (r.file ≡ file) × (r.count ≡ count) × (r.taken ≡ 0)) }
         ensures at { IfOk result (λ r. IsTrue H.meaning.tells → (front : List Bodies)
             → IsFront (seen H.meaning cache.old host.old file) count front → IsAt front r) }
         ensures held { IfOk result (λ r. IsTrue H.meaning.tells
@@ -75,7 +74,7 @@ impl Reader {
         Ok(Reader {
             file,
             count,
-            place: 0,
+            taken: 0,
             ahead: inside(next),
         })
     }
@@ -108,12 +107,12 @@ impl Reader {
         let Some(ahead) = self.ahead else {
             unreachable!()
         };
-        let place = self.place + 1;
-        let next = read(host, cache, self.file, self.count, place)?;
+        let taken = self.taken + 1;
+        let next = read(host, cache, self.file, self.count, taken)?;
         if !follows(&ahead, &next) {
-            return Err(TreeError::Damaged(page_name(self.file, place)));
+            return Err(TreeError::Damaged(page_name(self.file, taken)));
         }
-        self.place = place;
+        self.taken = taken;
         self.ahead = inside(next);
         Ok(ahead.body)
     }
@@ -147,16 +146,6 @@ impl Reader {
             return None;
         }
         Some((child % OCTANTS) as u8)
-    }
-}
-
-/// The page of a file on which the body of this number stands, counted from 0.
-pub(crate) fn page_name(file: u64, index: u64) -> PageName
-    ensures { result ≡ page_of_body file index }
-{
-    PageName {
-        file,
-        page: index / BODIES_PER_PAGE,
     }
 }
 

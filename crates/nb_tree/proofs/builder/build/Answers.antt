@@ -71,7 +71,7 @@ returns-then-from-clause-damaged g c = λ name is.
     let read = goes_read (goes_none m [] c.make.new.cache c.make.new.host made.writes.in_step) c.begin.ensures.ran (search rules) in
     let fields = c.in_ok-reader.ensures.fields in
     let same : c.page_name.result ≡ name = cc in
-    let page : name ≡ page_of_body c.args.bodies 0 = sym same ∙ c.page_name.ensures in
+    let page : name ≡ page_of_body c.args.bodies 0 = sym same ∙ c.page_name.ensures.value in
     no_tree m c.args.params.now c.args.cache.now c.args.host.now c.args.bodies c.args.cells c.args.count name
     (inl (ap (λ (n : PageName). n.file) page))
     (λ tells.

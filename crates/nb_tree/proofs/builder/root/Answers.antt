@@ -39,7 +39,7 @@ returns-in_err-closed-clause-damaged g c = λ name is tells held.
           let key = c.root.ensures in
           let whole = subst MayStand (sym (append_assoc cells (put_below params front 21 1) (kid params front 0 1))) may in
           never params front cells leaf fronts at
-          (subst (λ k. first_body front (in_cell 0 k front) ≡ c.args.reader.now.place) (sym key) (root_first front (front_sorted fronts) ∙ sym c.requires.begins))
+          (subst (λ k. first_body front (in_cell 0 k front) ≡ c.args.reader.now.taken) (sym key) (root_first front (front_sorted fronts) ∙ sym c.requires.begins))
           holds
           (subst (λ k. MayStand (cells ++ put_below params front 21 k)) (sym key) (may_front (cells ++ put_below params front 21 1) (kid params front 0 1) whole)))
     ]
@@ -52,8 +52,8 @@ returns-in_err-put-clause-damaged g c = λ name is tells held. inr (λ params fr
     let passed = subst (λ k. HasPassed params front 21 k (seen g.H.Host.meaning c.args.cache.now c.args.host.now c.args.maker.now.table.file) c.args.maker.now
     (middle c.args.maker.now.table.file) c.pass.new.maker c.in_ok-closed.closed) key
     (c.in_ok-closed.ensures.passed tells params front leaf fronts at
-    (subst (λ k. first_body front (in_cell 0 k front) ≡ c.args.reader.now.place) (sym key) (root_first front (front_sorted fronts) ∙ sym c.requires.begins))) in
-    let some = root_kid params front (front_sorted fronts) c.args.reader.now.place (next_of_lies at (lies_in_root c.args.reader.now (is_some_other c.args.reader.now.ahead c.is_none.ensures c.if-is_none.false))) in
+    (subst (λ k. first_body front (in_cell 0 k front) ≡ c.args.reader.now.taken) (sym key) (root_first front (front_sorted fronts) ∙ sym c.requires.begins))) in
+    let some = root_kid params front (front_sorted fronts) c.args.reader.now.taken (next_of_lies at (lies_in_root c.args.reader.now (is_some_other c.args.reader.now.ahead c.is_none.ensures c.if-is_none.false))) in
     let cell_is = c.cell.ensures.value ∙ passed.cell in
     let whole = subst MayStand (ap (λ l. cells ++ (put_below params front 21 1 ++ l)) some ∙ sym (append_assoc cells (put_below params front 21 1) (finished params front 0 1 ∷ []))) may in
     c.put.ensures.never name error tells (cells ++ put_below params front 21 1)
@@ -75,8 +75,8 @@ returns-clause-passed g c = λ tells params front leaf fronts at.
     let passed = subst (λ k. HasPassed params front 21 k (seen g.H.Host.meaning c.args.cache.now c.args.host.now c.args.maker.now.table.file) c.args.maker.now
     (middle c.args.maker.now.table.file) c.pass.new.maker c.in_ok-closed.closed) key
     (c.in_ok-closed.ensures.passed tells params front leaf fronts at
-    (subst (λ k. first_body front (in_cell 0 k front) ≡ c.args.reader.now.place) (sym key) (root_first front (front_sorted fronts) ∙ sym c.requires.begins))) in
-    let some = root_kid params front (front_sorted fronts) c.args.reader.now.place (next_of_lies at (lies_in_root c.args.reader.now (is_some_other c.args.reader.now.ahead c.is_none.ensures c.if-is_none.false))) in
+    (subst (λ k. first_body front (in_cell 0 k front) ≡ c.args.reader.now.taken) (sym key) (root_first front (front_sorted fronts) ∙ sym c.requires.begins))) in
+    let some = root_kid params front (front_sorted fronts) c.args.reader.now.taken (next_of_lies at (lies_in_root c.args.reader.now (is_some_other c.args.reader.now.ahead c.is_none.ensures c.if-is_none.false))) in
     let cell_is = c.cell.ensures.value ∙ passed.cell in (
       subst (AreSums c.in_ok-closed.closed.sums) (root_all front) passed.sums,
       inserts_are (ap (λ l. put_below params front 21 1 ++ l) (ap (λ x. x ∷ []) cell_is ∙ sym some))

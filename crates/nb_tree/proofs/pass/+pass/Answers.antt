@@ -29,12 +29,12 @@ returns-then-depth-eq0-clause-passed g t c = λ tells params front leaf fronts a
     let goes = goes_read (goes_none g.H.Host.meaning [] c.args.cache.now c.args.host.now c.requires.in_step) c.add_bodies.ensures.ran (search rules) in
     let same = same_file cells goes (no_file cells) tells in
     let level : 21 - c.args.depth ≡ 21 = (let zero = c.if-depth-eq0.true in omega arith) in
-    let first_is = subst (λ l. first_body front (in_cell l c.args.key front) ≡ c.args.reader.now.place) level first in
+    let first_is = subst (λ l. first_body front (in_cell l c.args.key front) ≡ c.args.reader.now.taken) level first in
     let file = seen g.H.Host.meaning c.args.cache.now c.args.host.now cells in
     subst (λ l. HasPassed params front c.args.depth c.args.key file c.args.maker.now l c.args.maker.now
-    (record { key = c.args.key; sums = c.in_ok-sums.sums; first = c.args.reader.now.place; kids = 0 })) (sym same)
+    (record { key = c.args.key; sums = c.in_ok-sums.sums; first = c.args.reader.now.taken; kids = 0 })) (sym same)
     (deepest_passed params front c.args.depth c.args.key file c.args.maker.now
-    (record { key = c.args.key; sums = c.in_ok-sums.sums; first = c.args.reader.now.place; kids = 0 })
+    (record { key = c.args.key; sums = c.in_ok-sums.sums; first = c.args.reader.now.taken; kids = 0 })
     c.if-depth-eq0.true refl refl (c.in_ok-sums.ensures.sums tells front fronts at first_is) first_is)
 
 pub returns-then-depth-eq0-clause-ran : goal.returns-then-depth-eq0-clause-ran
@@ -65,10 +65,10 @@ loop-octant-init g t c =
       at = λ tells front fronts at. at;
       held = λ tells held. held;
       read = λ tells params front leaf fronts at first.
-          subst (λ l. IsReadTo params front c.args.depth c.args.key c.args.reader.now.place c.none-sums.result 0 (cells_closed l)
+          subst (λ l. IsReadTo params front c.args.depth c.args.key c.args.reader.now.taken c.none-sums.result 0 (cells_closed l)
           (seen g.H.Host.meaning c.args.cache.now c.args.host.now c.args.maker.now.table.file) c.args.maker.now
           (seen g.H.Host.meaning c.args.cache.now c.args.host.now c.args.maker.now.table.file) c.args.maker.now) (sym (drop_none c.args.waiting.now.items))
-          (begins_read params (front_sorted fronts) c.args.depth c.args.key some c.requires.depth c.requires.key c.args.reader.now.place c.none-sums.result
+          (begins_read params (front_sorted fronts) c.args.depth c.args.key some c.requires.depth c.requires.key c.args.reader.now.taken c.none-sums.result
           (seen g.H.Host.meaning c.args.cache.now c.args.host.now c.args.maker.now.table.file) c.args.maker.now first none);
     }
 
@@ -134,7 +134,7 @@ returns-in_err-kid-clause-damaged g t c = λ name is tells held.
           let puts_may = may_front (cells ++ begun.puts) (put_below params front (c.args.depth - 1) (8 * c.args.key + c.in-Some.octant)) stand in
           never params front (cells ++ begun.puts) (leaf ∙ sym inv.same.leaf)
           (front_on inv.reads before now same fronts) here
-          (subst (λ k. first_body front (in_cell (21 - (c.args.depth - 1)) k front) ≡ c.loop-octant.reader.place) (sym child) begun.first)
+          (subst (λ k. first_body front (in_cell (21 - (c.args.depth - 1)) k front) ≡ c.loop-octant.reader.taken) (sym child) begun.first)
           (subst (λ f. HoldsCells (now f) c.loop-octant.maker (cells ++ begun.puts)) (sym inv.same.file) (begun.inserts cells holds puts_may))
           (subst (λ k. MayStand ((cells ++ begun.puts) ++ put_below params front (c.args.depth - 1) k)) (sym child) stand))
     ]
@@ -189,16 +189,16 @@ loop-octant-preserved g t c =
           let begun = comes_to params are c.args.depth c.args.key some deep c.requires.key (inv.read tells params front leaf fronts at first)
           c.in-Some.octant c.in-Some.ensures.range next in
           let passed = kid.passed tells params front (leaf ∙ sym inv.same.leaf) (front_on inv.reads before now same fronts) here
-          (subst (λ k. first_body front (in_cell (21 - (c.args.depth - 1)) k front) ≡ c.loop-octant.reader.place) (sym child) begun.first) in
+          (subst (λ k. first_body front (in_cell (21 - (c.args.depth - 1)) k front) ≡ c.loop-octant.reader.taken) (sym child) begun.first) in
           let passed_here = subst (λ f. HasPassed params front (c.args.depth - 1) (8 * c.args.key + c.in-Some.octant) (now f) c.loop-octant.maker (after f) c.pass.new.maker c.in_ok-kid.kid) inv.same.file
           (subst (λ k. HasPassed params front (c.args.depth - 1) k (now c.loop-octant.maker.table.file) c.loop-octant.maker (after c.loop-octant.maker.table.file) c.pass.new.maker c.in_ok-kid.kid) child passed) in
-          subst (λ l. IsReadTo params front c.args.depth c.args.key c.pass.new.reader.place c.plus-sums.result
+          subst (λ l. IsReadTo params front c.args.depth c.args.key c.pass.new.reader.taken c.plus-sums.result
           (bit_or c.loop-octant.kids ((1 * 2 ^ c.in-Some.octant) % 256)) l
           (before c.args.maker.now.table.file) c.args.maker.now (after c.args.maker.now.table.file) c.pass.new.maker)
           (sym (ap (λ l. cells_closed (drop (length c.args.waiting.now.items) l)) pushed
           ∙ ap cells_closed (waits_last c.args.waiting.now.items c.loop-octant.waiting.items c.in_ok-kid.kid inv.waits)
           ∙ cells_push (drop (length c.args.waiting.now.items) c.loop-octant.waiting.items) c.in_ok-kid.kid))
-          (goes_past params are c.args.depth c.args.key some deep c.requires.key c.plus-sums.result c.in_ok-kid.kid c.pass.new.reader.place c.in-Some.ensures.range begun
+          (goes_past params are c.args.depth c.args.key some deep c.requires.key c.plus-sums.result c.in_ok-kid.kid c.pass.new.reader.taken c.in-Some.ensures.range begun
           passed_here
           (record {
             count = c.plus-sums.ensures.count;
@@ -206,7 +206,7 @@ loop-octant-preserved g t c =
             x = c.plus-sums.ensures.x;
             y = c.plus-sums.ensures.y;
             z = c.plus-sums.ensures.z;
-          }) kid.reads.place);
+          }) kid.reads.taken);
     }
 
 -- ---- the end
@@ -285,7 +285,7 @@ returns-clause-passed g t c = λ tells params front leaf fronts at first.
     let put_is = subst (λ n. Inserts (cond (leb c.loop-octant.sums.count params.leaf) [] (cells_closed (drop n c.loop-octant.waiting.items)))
     (now c.args.maker.now.table.file) c.loop-octant.maker (after c.args.maker.now.table.file) c.put_octants.new.self) inv.from put_leaf_is in
     end_passed params are c.args.depth c.args.key some deep c.requires.key
-    (record { key = c.args.key; sums = c.loop-octant.sums; first = c.args.reader.now.place; kids = c.in_ok-kids.kids })
+    (record { key = c.args.key; sums = c.loop-octant.sums; first = c.args.reader.now.taken; kids = c.in_ok-kids.kids })
     end refl refl (c.in_ok-kids.ensures.kids ∙ ap (λ n. cond (leb c.loop-octant.sums.count n) 0 c.loop-octant.kids) leaf_is) first to.inserts put_is
 
 pub returns-clause-ran : goal.returns-clause-ran

@@ -29,15 +29,15 @@ invariant-loop-octant g l = record {
       → IsHeld (seen g.H.Host.meaning l.fn.cache l.fn.host l.fn.reader.file) l.reader;
   read : IsTrue g.H.Host.meaning.tells → (params : Params) (front : List Body) → params.leaf ≡ l.fn.maker.leaf
       → IsFront (seen g.H.Host.meaning l.fn.cache l.fn.host l.fn.reader.file) l.fn.reader.count front
-      → IsAt front l.fn.reader → first_body front (in_cell (21 - l.depth) l.key front) ≡ l.fn.reader.place
-      → IsReadTo params front l.depth l.key l.reader.place l.sums l.kids
+      → IsAt front l.fn.reader → first_body front (in_cell (21 - l.depth) l.key front) ≡ l.fn.reader.taken
+      → IsReadTo params front l.depth l.key l.reader.taken l.sums l.kids
       (cells_closed (drop (length l.fn.waiting.items) l.waiting.items))
       (seen g.H.Host.meaning l.fn.cache l.fn.host l.fn.maker.table.file) l.fn.maker
       (seen g.H.Host.meaning l.cache l.host l.fn.maker.table.file) l.maker;
 }
 
 abbrev pub decreases-loop-octant : goal.decreases-loop-octant
-decreases-loop-octant g l = l.reader.count - l.reader.place
+decreases-loop-octant g l = l.reader.count - l.reader.taken
 
 abbrev pub decreases-pass : goal.decreases-pass
 decreases-pass g l = l.depth

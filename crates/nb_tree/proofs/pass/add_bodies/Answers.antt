@@ -48,9 +48,9 @@ loop-key-preserved g c =
       sums = λ tells front fronts at first.
           let here = inv.at tells front fronts at in
           let next = next_of_lies here lies in
-          let taken : c.in_ok-body.body ≡ lies.next.body = rw lies.there at c.in_ok-body.ensures.body in
-          summed_more (front_sorted fronts) c.args.key c.args.reader.now.place first c.loop-key.reader.place c.loop-key.sums
-          c.of.result c.plus-sums.result c.in_ok-body.body inv.reads.place next (next.there ∙ ap Some (sym taken))
+          let same_body : c.in_ok-body.body ≡ lies.next.body = rw lies.there at c.in_ok-body.ensures.body in
+          summed_more (front_sorted fronts) c.args.key c.args.reader.now.taken first c.loop-key.reader.taken c.loop-key.sums
+          c.of.result c.plus-sums.result c.in_ok-body.body inv.reads.taken next (next.there ∙ ap Some (sym same_body))
           (record { count = c.of.ensures.count; mass = c.of.ensures.mass; x = c.of.ensures.x; y = c.of.ensures.y; z = c.of.ensures.z })
           (record {
             count = c.plus-sums.ensures.count;
@@ -65,7 +65,7 @@ loop-key-preserved g c =
 pub returns-clause-sums : goal.returns-clause-sums
 returns-clause-sums g c = λ tells front fronts at first.
     let inv = c.loop-key.invariant in
-    summed_all (front_sorted fronts) c.args.key c.args.reader.now.place first c.loop-key.reader.place c.loop-key.sums inv.reads.place
+    summed_all (front_sorted fronts) c.args.key c.args.reader.now.taken first c.loop-key.reader.taken c.loop-key.sums inv.reads.taken
     (next_of_lies at c.requires.lies)
     (λ next. absurd (let lies = c.lies_in.ensures.1 (lies_of_next (inv.at tells front fronts at) next) in let not = c.loop-key-test.false in search rules))
     (inv.sums tells front fronts at first)

@@ -23,9 +23,9 @@ invariant-loop-key g l = record {
       → IsHeld (seen g.H.Host.meaning l.fn.cache l.fn.host l.fn.reader.file) l.reader;
   sums : IsTrue g.H.Host.meaning.tells → (front : List Body)
       → IsFront (seen g.H.Host.meaning l.fn.cache l.fn.host l.fn.reader.file) l.fn.reader.count front
-      → IsAt front l.fn.reader → first_body front (in_cell 21 l.key front) ≡ l.fn.reader.place
-      → AreSumsTo front l.key l.fn.reader.place l.sums;
+      → IsAt front l.fn.reader → first_body front (in_cell 21 l.key front) ≡ l.fn.reader.taken
+      → AreSumsTo front l.key l.fn.reader.taken l.sums;
 }
 
 abbrev pub decreases-loop-key : goal.decreases-loop-key
-decreases-loop-key g l = l.reader.count - l.reader.place
+decreases-loop-key g l = l.reader.count - l.reader.taken
