@@ -1,0 +1,9 @@
+mod Calls
+mod Fetching
+mod Finishing
+mod Handing
+mod Lists
+mod Refusing
+mod Takes
+mod Views
+mod Walks
