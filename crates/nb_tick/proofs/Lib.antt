@@ -1,0 +1,15 @@
+mod Calls
+mod Refusing
+mod Lists
+mod Written
+mod Drifts
+mod Kicks
+mod Ticks
+mod Trees
+mod TreeDrifts
+mod Phases
+mod SecondHalf
+mod Views
+mod Ticking
+mod Sorting
+mod OneTick

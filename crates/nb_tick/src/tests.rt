@@ -1,0 +1,232 @@
+//! Ticks with known answers.
+
+ghost use Rattle.std.specs.Prelude.{◌≡◌, ◌^◌, ◌≤◌, [], OnOk};
+ghost use Rattle.nb_model.specs.Valid.{AreInRange};
+ghost use Rattle.nb_cache.specs.InStep.{IsInStep};
+
+use crate::leapfrog::tick;
+use crate::slot::Slot;
+use nb_cache::Cache;
+use nb_host::{Host, MemoryHost};
+use nb_model::{At, Body, Edge, HALF_BOX, Params, V3, Way};
+use nb_order::{KickedBody, Sorter, kicked_at, push_body};
+use nb_tree::Builder;
+use nb_walk::Pool;
+use std::alloc::Global;
+use std::test::Fail;
+
+/// The middle of an axis, in box units.
+const MIDDLE: u64 = HALF_BOX;
+
+const NO_KICK: V3 = V3 { x: 0, y: 0, z: 0 };
+
+fn params(edge: Edge) -> Params
+    ensures { AreInRange result }
+{
+    Params {
+        grav: 1_000_000_000,
+        theta_num: 1,
+        theta_den: 2,
+        soft: 1,
+        leaf: 8,
+        every: 100,
+        edge,
+    }
+}
+
+/// A vector along the first axis.
+fn along(x: i64) -> V3 {
+    V3 { x, y: 0, z: 0 }
+}
+
+/// A body of the pair of masses 1 and 1000, with its half kick.
+fn one_of_pair(id: u64, mass: u32, x: u64, v: i64, kick: i64) -> KickedBody {
+    KickedBody {
+        body: Body {
+            id,
+            mass,
+            out: false,
+            at: At {
+                x,
+                y: MIDDLE,
+                z: MIDDLE,
+            },
+            v: along(v),
+        },
+        kick: along(kick),
+    }
+}
+
+/// Adds a body to the slot of an even number of ticks.
+fn put<H: Host>(host: &mut H, cache: &mut Cache, index: u64, body: &Body) -> Result<(), Fail>
+    requires index { index ≤ 1 }
+    requires in_step { IsInStep H.meaning cache.old host.old }
+    ensures { IsInStep H.meaning cache.new host.new }
+{
+    if !body.is_valid() {
+        return Err(Fail::new("a valid body"));
+    }
+    push_body(host, cache, 3, index, body, &NO_KICK)?;
+    Ok(())
+}
+
+/// The first two bodies of a slot, with their half kicks.
+fn pair_in<H: Host>(host: &mut H, cache: &mut Cache, slot: Slot) -> Result<[KickedBody; 2], Fail>
+    requires in_step { IsInStep H.meaning cache.old host.old }
+    ensures { IsInStep H.meaning cache.new host.new }
+{
+    let first = kicked_at(host, cache, slot.file(), 0)?;
+    let second = kicked_at(host, cache, slot.file(), 1)?;
+    Ok([first, second])
+}
+
+/// A tick with one walk at a time.
+fn tick_once<H: Host>(
+    alloc: Global,
+    host: &mut H,
+    cache: &mut Cache,
+    params: &Params,
+    from: Slot,
+    count: u64,
+    way: Way,
+    known: bool,
+) -> Result<u64, Fail>
+    requires params { AreInRange params.now }
+    requires count { count ≤ 2 }
+    requires unwritten { cache.old.unwritten ≡ [] }
+    requires in_step { IsInStep H.meaning cache.old host.old }
+    ensures unwritten { OnOk result (cache.new.unwritten ≡ []) }
+    ensures in_step { IsInStep H.meaning cache.new host.new }
+{
+    let mut pool = Pool::new(alloc, 1)?;
+    let mut sorter = Sorter::new(alloc);
+    let mut builder = Builder::new(alloc);
+    Ok(tick(
+        host,
+        cache,
+        &mut pool,
+        &mut sorter,
+        &mut builder,
+        params,
+        from,
+        count,
+        way,
+        known,
+    )?)
+}
+
+/// Two bodies at rest, a tick on and back again: what each tick answers, and what its slot holds then.
+fn there_and_back(
+    alloc: Global,
+    pages: usize,
+    known: bool,
+) -> Result<(u64, [KickedBody; 2], u64, [KickedBody; 2]), Fail>
+    requires least { 4 ≤ pages }
+    requires most { pages ≤ 2 ^ 18 }
+{
+    let mut host = MemoryHost::new(alloc);
+    let mut cache = Cache::new(alloc, pages)?;
+    let params = params(Edge::Open);
+    put(
+        &mut host,
+        &mut cache,
+        0,
+        &one_of_pair(1, 1, MIDDLE, 0, 0).body,
+    )?;
+    put(
+        &mut host,
+        &mut cache,
+        1,
+        &one_of_pair(2, 1000, MIDDLE + 1000, 0, 0).body,
+    )?;
+    cache.flush(&mut host)?;
+    let on = tick_once(
+        alloc,
+        &mut host,
+        &mut cache,
+        &params,
+        Slot::Even,
+        2,
+        Way::Forward,
+        false,
+    )?;
+    let odd = pair_in(&mut host, &mut cache, Slot::Odd)?;
+    cache.flush(&mut host)?;
+    let back = tick_once(
+        alloc,
+        &mut host,
+        &mut cache,
+        &params,
+        Slot::Odd,
+        2,
+        Way::Back,
+        known,
+    )?;
+    let even = pair_in(&mut host, &mut cache, Slot::Even)?;
+    Ok((on, odd, back, even))
+}
+
+/// What a tick answers for a body at the border of the box that moves across it, and the body then.
+fn across_the_border(alloc: Global, edge: Edge) -> Result<(u64, Body), Fail> {
+    let mut host = MemoryHost::new(alloc);
+    let mut cache = Cache::new(alloc, 4)?;
+    let params = params(edge);
+    put(
+        &mut host,
+        &mut cache,
+        0,
+        &at_the_border((1 << 40) - 1, false),
+    )?;
+    cache.flush(&mut host)?;
+    let out = tick_once(
+        alloc,
+        &mut host,
+        &mut cache,
+        &params,
+        Slot::Even,
+        1,
+        Way::Forward,
+        false,
+    )?;
+    let found = kicked_at(&mut host, &mut cache, Slot::Odd.file(), 0)?;
+    Ok((out, found.body))
+}
+
+fn at_the_border(x: u64, out: bool) -> Body {
+    Body {
+        id: 7,
+        mass: 3,
+        out,
+        at: At { x, y: 0, z: 0 },
+        v: along(1),
+    }
+}
+
+#[test]
+fn a_tick_there_and_back(rt: HostRuntime) -> Result<(), Fail> {
+    let on = [
+        one_of_pair(2, 1000, 549_755_813_889, -999, 0),
+        one_of_pair(1, 1, 549_756_813_887, 999_998, -1),
+    ];
+    let back = [
+        one_of_pair(1, 1, MIDDLE, 0, 999_999),
+        one_of_pair(2, 1000, MIDDLE + 1000, 0, -999),
+    ];
+    assert_eq!(rt; there_and_back(rt.alloc(), 4, true)?, (0, on, 0, back));
+    assert_eq!(rt; there_and_back(rt.alloc(), 256, false)?, (0, on, 0, back));
+    Ok(())
+}
+
+#[test]
+fn a_body_crosses_the_border(rt: HostRuntime) -> Result<(), Fail> {
+    let corner = (1 << 40) - 1;
+    assert_eq!(rt;
+        across_the_border(rt.alloc(), Edge::Open)?,
+        (1, at_the_border(corner, true))
+    );
+    assert_eq!(rt;
+        across_the_border(rt.alloc(), Edge::Wrap)?,
+        (0, at_the_border(0, false))
+    );
+    Ok(())
+}
