@@ -1,18 +1,28 @@
 -- Which causes exclude each other.
-use Rattle.std.proofs.Common.{◌≡◌, ◌⊎◌, inl, inr, ℕ, List, sym, ap, subst, ◌∙◌}
+use Rattle.std.proofs.Common.{◌≡◌, ◌⊎◌, inl, inr, ℕ, List, refl, sym, ap, subst, ◌∙◌, arith}
 use Rattle.nb_host.specs.Image.{Image}
 use Rattle.nb_format.proofs.Snapshots.{one_snapshot}
 use Rattle.nb_format.proofs.SnapshotRefusals.{snapshot_none}
-use Rattle.nb_cli.specs.declared.refusal.Refusal.{Refusal}
-use Rattle.nb_cli.specs.Words.{IsOnce, IsNoCommand}
-use Rattle.nb_cli.specs.Refusal.{NeedsNoCause}
+use Rattle.nb_journal.specs.Form.{IsFresh, IsDamagedAt}
+use Rattle.nb_journal.proofs.Callers.{fresh_alone, not_both, one_damage}
+use Rattle.nb_engine.specs.declared.refusal.Refusal.{Refusal}
+use Rattle.nb_engine.specs.Refusal.{NeedsNoCause, damaged_journal}
+use Rattle.nb_engine.specs.Shown.{IsNotShown}
+use Rattle.nb_cli.specs.declared.stop.Stop.{Stop}
+use Rattle.nb_cli.specs.declared.stop.Stop.TheVariants as stop
+use Rattle.nb_cli.specs.declared.words.Job.{Job}
+use Rattle.nb_cli.specs.declared.words.Job.TheVariants as job
+use Rattle.nb_cli.specs.Words.{IsJob}
 use Rattle.nb_cli.specs.Once.{Start, HasStart, IsReady, IsRefused}
-use Rattle.nb_cli.specs.Answer.{HasCause}
+use Rattle.nb_cli.specs.Answer.{IsJobReady, IsJobRefused, HasCause}
 
--- the words ask for one time only
-pub one_target : {words : List (List ℕ)} {a b : ℕ} → IsOnce words a → IsOnce words b → a ≡ b
-one_target {words} {a} {b} first second =
+-- the words are one command only
+pub one_job : (words : List (List ℕ)) (a b : Job) → IsJob words a → IsJob words b → a ≡ b
+one_job words (job.Once a) (job.Once b) first second =
     let p = first.1 in let q = second.1 in let r = first.2 in let s = second.2 in cc
+one_job words (job.Once a) job.Show first second = let p = first.1 in absurd (cc)
+one_job words job.Show (job.Once b) first second = let p = second.1 in absurd (cc)
+one_job words job.Show job.Show first second = refl
 
 same_start : (a b : Start) → a.params ≡ b.params → a.bodies ≡ b.bodies → a.time ≡ b.time → a ≡ b
 same_start a b params bodies time =
@@ -35,11 +45,18 @@ not_refused ready (inr (inl none)) =
 not_refused ready (inr (inr beyond)) =
     let same = one_start ready.starts beyond.1.starts in let p = ready.takes in let q = beyond.1.refused in cc
 
-pub no_cause : {words : List (List ℕ)} {files : ℕ → List ℕ} {target : ℕ} {start : Start} {why : Refusal}
-    → IsOnce words target → IsReady files target start → HasCause words files why → ⊥
-no_cause {target = target} once ready (inl none) = none.1 target once
-no_cause {files = files} {why = why} once ready (inr refused) =
-    let P : ℕ → Type 0 = λ t. IsRefused files t why in not_refused ready (subst P (one_target refused.1 once) refused.2)
+-- Where a command can be done it isn't refused.
+not_refused_job : (files : ℕ → List ℕ) (job : Job) (why : Refusal) → IsJobReady files job → IsJobRefused files job why → ⊥
+not_refused_job files (job.Once target) why ready refused = not_refused ready.1 refused
+not_refused_job files job.Show why ready (inl none) = fresh_alone ready.0 0 _ none.1 (inl ready.1)
+not_refused_job files job.Show why ready (inr none) = not_both ready.0 none.0 _ ready.1 none.2
+
+pub no_cause : {words : List (List ℕ)} {files : ℕ → List ℕ} {why : Stop} (job : Job)
+    → IsJob words job → IsJobReady files job → HasCause words files why → ⊥
+no_cause job is ready (inl none) = none.1 job is
+no_cause {words = words} {files = files} job is ready (inr some) =
+    let P : Job → Type 0 = λ j. IsJobRefused files j some.1 in
+    not_refused_job files job some.1 ready (subst P (one_job words some.0 job some.3 is) some.4)
 
 -- Two causes don't hold together.
 one_refusal : {files : ℕ → List ℕ} {target : ℕ} {a b : Refusal} → IsRefused files target a → IsRefused files target b → a ≡ b
@@ -56,26 +73,32 @@ one_refusal (inr (inr first)) (inr (inl second)) =
 one_refusal (inr (inr first)) (inr (inr second)) =
     let same = one_start first.1.starts second.1.starts in let p = first.1.refused in let q = second.1.refused in cc
 
-pub one_cause : {words : List (List ℕ)} {files : ℕ → List ℕ} {a b : Refusal} → HasCause words files a → HasCause words files b → a ≡ b
+fresh_no_damage : (offset : ℕ) (file : List ℕ) → IsFresh file → IsDamagedAt offset file → ⊥
+fresh_no_damage offset file (inl short) damaged = absurd (omega (arith, short, damaged.started.long))
+fresh_no_damage offset file (inr shut) damaged = shut damaged.started.gate
+
+one_shown : {file : List ℕ} {a b : Refusal} → IsNotShown file a → IsNotShown file b → a ≡ b
+one_shown (inl first) (inl second) = first.0 ∙ sym second.0
+one_shown (inl first) (inr second) = absurd (fresh_no_damage second.0 _ first.1 second.2)
+one_shown (inr first) (inl second) = absurd (fresh_no_damage first.0 _ second.1 first.2)
+one_shown (inr first) (inr second) =
+    first.1 ∙ ap damaged_journal (one_damage first.0 second.0 _ first.2 second.2) ∙ sym second.1
+
+one_job_refusal : (files : ℕ → List ℕ) (job : Job) {a b : Refusal} → IsJobRefused files job a → IsJobRefused files job b → a ≡ b
+one_job_refusal files (job.Once target) first second = one_refusal first second
+one_job_refusal files job.Show first second = one_shown first second
+
+pub one_cause : {words : List (List ℕ)} {files : ℕ → List ℕ} {a b : Stop} → HasCause words files a → HasCause words files b → a ≡ b
 one_cause (inl first) (inl second) = first.0 ∙ sym second.0
-one_cause (inl first) (inr second) = absurd (first.1 _ second.1)
-one_cause (inr first) (inl second) = absurd (second.1 _ first.1)
-one_cause {files = files} {a = a} (inr first) (inr second) =
-    let P : ℕ → Type 0 = λ t. IsRefused files t a in one_refusal (subst P (one_target first.1 second.1) first.2) second.2
-
--- A run of a command isn't refused for its words.
-pub words_of_command : {words : List (List ℕ)} {target : ℕ} {Refused : Type 0} → IsOnce words target → (Refused → ⊥)
-    → (Refused → IsNoCommand words) × (IsNoCommand words → Refused)
-words_of_command {target = target} once never = (λ refused. absurd (never refused), λ none. absurd (none target once))
-
--- the cause of a command's refusal, for the words that ask for it
-pub cause_of_command : {words : List (List ℕ)} {files : ℕ → List ℕ} {target : ℕ} {why : Refusal} → IsOnce words target
-    → NeedsNoCause why ⊎ IsRefused files target why → HasCause words files why ⊎ NeedsNoCause why
-cause_of_command once (inl free) = inr free
-cause_of_command {target = target} once (inr refused) = inl (inr (target, once, refused))
+one_cause (inl first) (inr second) = absurd (first.1 second.0 second.3)
+one_cause (inr first) (inl second) = absurd (second.1 first.0 first.3)
+one_cause {words = words} {files = files} (inr first) (inr second) =
+    let P : Job → Type 0 = λ j. IsJobRefused files j first.1 in
+    let moved = subst P (one_job words first.0 second.0 first.3 second.3) first.4 in
+    first.2 ∙ ap stop.Refused (one_job_refusal files second.0 moved second.4) ∙ sym second.2
 
 -- the cause that a command met in an image that is as before
-pub cause_still : {old now : Image} {target : ℕ} {why : Refusal} → now ≡ old → NeedsNoCause why ⊎ IsRefused now.file target why
-    → NeedsNoCause why ⊎ IsRefused old.file target why
-cause_still {target = target} {why = why} same cause =
-    let P : Image → Type 0 = λ image. NeedsNoCause why ⊎ IsRefused image.file target why in subst P same cause
+pub cause_still : {old now : Image} {why : Refusal} (job : Job) → now ≡ old → NeedsNoCause why ⊎ IsJobRefused now.file job why
+    → NeedsNoCause why ⊎ IsJobRefused old.file job why
+cause_still {why = why} job same cause =
+    let P : Image → Type 0 = λ image. NeedsNoCause why ⊎ IsJobRefused image.file job why in subst P same cause

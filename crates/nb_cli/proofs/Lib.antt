@@ -8,3 +8,4 @@ mod Causes
 mod Runs
 mod Saying
 mod Statuses
+mod Shown

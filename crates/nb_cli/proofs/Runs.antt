@@ -1,4 +1,4 @@
--- What a run of `once` has changed, by its steps, in what reads and in the images.
+-- What a run of a command has changed, by its steps, in what reads and in the images.
 use Rattle.std.proofs.Common.{◌≡◌, ◌≢◌, ◌≤◌, ◌⊎◌, inl, inr, ℕ, List, ◌++◌, take, refl, ap, sym, subst, ◌∙◌, arith, IsTrue, IsOk, Result, Ok, Err, rules, ◌+◌}
 use Rattle.std.proofs.lemmas.List.{append-nil}
 use Rattle.nb_model.specs.Leapfrog.{escaped_count}
@@ -9,17 +9,23 @@ use Rattle.nb_host.specs.declared.host.HostError.TheVariants.{Fault, NoMemory}
 use Rattle.nb_host.specs.Crashes.{Stays}
 use Rattle.nb_host.specs.Image.{Image, FileBecomes, SaysPart}
 use Rattle.nb_host.specs.Meaning.{HostModel, Leads, Spoke, RanSyncing, IsDurable, Tally}
-use Rattle.nb_host.proofs.Callers.{goes_on, leads_more, leads_before, stopped_after, ok_is_no_error}
+use Rattle.nb_host.proofs.Callers.{goes_on, leads_more, leads_before, stays_contents, stopped_after, ok_is_no_error}
 use Rattle.nb_format.specs.Lines.{once_line}
 use Rattle.nb_format.specs.Snapshot.{IsSnapshot}
 use Rattle.nb_format.specs.Writer.{IsFinishedAs}
 use Rattle.nb_cli.specs.declared.once_command.Done.{Done}
-use Rattle.nb_cli.specs.declared.refusal.Refusal.{Refusal}
-use Rattle.nb_cli.specs.declared.refusal.Refusal.TheVariants as refusal
+use Rattle.nb_engine.specs.declared.refusal.Refusal.{Refusal}
+use Rattle.nb_engine.specs.declared.refusal.Refusal.TheVariants as refusal
+use Rattle.nb_engine.specs.declared.shown.Shown.{Shown}
+use Rattle.nb_engine.specs.Refusal.{of_host, NeedsNoCause}
+use Rattle.nb_engine.specs.Shown.{TellsLog}
+use Rattle.nb_journal.specs.Form.{Log, IsJournal, progress_of}
+use Rattle.nb_journal.specs.Offsets.{journal_file}
+use Rattle.nb_cli.specs.declared.words.Job.TheVariants as job
 use Rattle.nb_cli.specs.Once.{once_file, Start, ticks_to, list_at, IsReady}
 use Rattle.nb_cli.specs.Done.{TellsOf, BecomesAny, MayWrite}
-use Rattle.nb_cli.specs.Refusal.{refusal_by_host, NeedsNoCause}
-use Rattle.nb_cli.specs.Answer.{SaidFrontOf, IsWithin, OnceTouches, CountsRun, SyncsRun, once_syncs, run_syncs}
+use Rattle.nb_cli.specs.Show.{folder_text, show_text}
+use Rattle.nb_cli.specs.Answer.{SaidFrontOf, IsPartlyDone, IsPartlyShown, JobTouches, CountsRun, SyncsRun}
 
 Out≢Err : ◌≡◌ {A = Channel} channels.Err channels.Out → ⊥
 Out≢Err same = cc
@@ -48,7 +54,7 @@ said_still (inr some) = some.2.said
 
 -- only the file was changed
 within_file : {P : List ℕ → List ℕ → Type 0} {target : ℕ} {start : Start} {old now : Image}
-    → FileBecomes once_file P old now → IsWithin target start old now
+    → FileBecomes once_file P old now → IsPartlyDone target start old now
 within_file {old = old} changed =
     let out = ap (λ (f : Channel → List ℕ). f channels.Out) changed.said in
     record {
@@ -58,7 +64,7 @@ within_file {old = old} changed =
     }
 
 pub touched_by_file : {files : ℕ → List ℕ} {target : ℕ} {old now : Image} → MayWrite files target old now
-    → OnceTouches files target old now
+    → JobTouches files (job.Once target) old now
 touched_by_file (inl same) =
     record { touches = inl same; err = ap (λ (image : Image). image.said channels.Err) same }
 touched_by_file (inr some) = record {
@@ -86,7 +92,7 @@ to_say {target = target} line same done is = record {
 
 -- a front of it was said
 touched_by_line : {files : ℕ → List ℕ} {target : ℕ} {old middle now : Image} (line : List ℕ) → MayWrite files target old middle
-    → IsToSay files target line middle → SaysPart channels.Out line middle now → OnceTouches files target old now
+    → IsToSay files target line middle → SaysPart channels.Out line middle now → JobTouches files (job.Once target) old now
 touched_by_line {target = target} {old = old} {middle = middle} {now = now} line wrote tells part =
     let P : List ℕ → Type 0 = λ text. SaidFrontOf text (old.said channels.Out) (now.said channels.Out) in
     let Q : (ℕ → List ℕ) → Type 0 = λ files. IsSnapshot (files once_file) (list_at target tells.start) target in
@@ -140,14 +146,14 @@ pub leads_synced : {H : Type 0} {m : HostModel H} {files : ℕ → List ℕ} {ta
 leads_synced synced wrote = leads_before (λ image. inl refl) synced wrote
 
 pub leads_file : {H : Type 0} {m : HostModel H} {files : ℕ → List ℕ} {target : ℕ} {old new : H}
-    → Leads m (MayWrite files target) old new → Leads m (OnceTouches files target) old new
+    → Leads m (MayWrite files target) old new → Leads m (JobTouches files (job.Once target)) old new
 leads_file wrote = leads_more wrote (λ start image step. touched_by_file step)
 
 -- The line is said once the file is durable, so a front of it stands in no image in which the file isn't the snapshot.
 pub leads_line : {H : Type 0} {m : HostModel H} {files : ℕ → List ℕ} {target : ℕ} {old middle new : H} (line : List ℕ)
     → Leads m (MayWrite files target) old middle → IsDurable m middle
     → (IsTrue m.tells → IsToSay files target line (m.contents middle)) → Leads m (SaysPart channels.Out line) middle new
-    → Leads m (OnceTouches files target) old new
+    → Leads m (JobTouches files (job.Once target)) old new
 leads_line {m = m} {files = files} {target = target} line wrote durable tells said = record {
   contents = λ told. touched_by_line line (wrote.contents told) (tells told) (said.contents told);
   images = goes_on wrote.images said.images (λ start image step. touched_by_file step)
@@ -162,84 +168,105 @@ leads_line {m = m} {files = files} {target = target} line wrote durable tells sa
 -- what the program makes of how its line was said
 abbrev pub said_answer : Result (Unit {0}) HostError → Result (Unit {0}) Refusal
 said_answer (Ok tt) = Ok tt
-said_answer (Err error) = Err (refusal_by_host error)
+said_answer (Err error) = Err (of_host error)
 
 -- a device fault or want of memory, behind so many syncs at most
-pub syncs_free : (why : Refusal) (before behind : ℕ) → NeedsNoCause why → behind ≤ before + run_syncs → SyncsRun (Err why) before behind
-syncs_free why before behind (inl is) few = subst (λ w. SyncsRun (Err w) before behind) (sym is) few
-syncs_free why before behind (inr is) few = subst (λ w. SyncsRun (Err w) before behind) (sym is) few
+pub syncs_free : (syncs : ℕ) (why : Refusal) (before behind : ℕ) → NeedsNoCause why → behind ≤ before + syncs
+    → SyncsRun syncs (Err why) before behind
+syncs_free syncs why before behind (inl is) few = subst (λ w. SyncsRun syncs (Err w) before behind) (sym is) few
+syncs_free syncs why before behind (inr is) few = subst (λ w. SyncsRun syncs (Err w) before behind) (sym is) few
 
 -- a refusal by a cause, behind one sync
-pub syncs_once : (why : Refusal) (before behind : ℕ) → why ≢ refusal.Words → behind ≡ before + 1 → SyncsRun (Err why) before behind
-syncs_once refusal.Words before behind other one = absurd (other refl)
-syncs_once (refusal.Params _) before behind other one = one
-syncs_once (refusal.Snapshot _) before behind other one = one
-syncs_once (refusal.TooHeavy _ _) before behind other one = one
-syncs_once (refusal.TickLimit _) before behind other one = one
-syncs_once (refusal.TooMany _) before behind other one = one
-syncs_once refusal.Device before behind other one = omega (arith, one)
-syncs_once refusal.NoMemory before behind other one = omega (arith, one)
+pub syncs_once : (more : ℕ) (why : Refusal) (before behind : ℕ) → behind ≡ before + 1 → SyncsRun (more + 1) (Err why) before behind
+syncs_once more (refusal.Params _) before behind one = one
+syncs_once more (refusal.Snapshot _) before behind one = one
+syncs_once more (refusal.TooHeavy _ _) before behind one = one
+syncs_once more refusal.NotStarted before behind one = one
+syncs_once more refusal.Started before behind one = one
+syncs_once more (refusal.LegOpen _ _) before behind one = one
+syncs_once more (refusal.TickLimit _) before behind one = one
+syncs_once more refusal.InitThere before behind one = one
+syncs_once more (refusal.TooMany _) before behind one = one
+syncs_once more refusal.Device before behind one = omega (arith, one)
+syncs_once more (refusal.Damaged _) before behind one = one
+syncs_once more refusal.NoMemory before behind one = omega (arith, one)
 
 free_or_not : (why : Refusal) → NeedsNoCause why ⊎ (NeedsNoCause why → ⊥)
 free_or_not refusal.Device = inl (inl refl)
 free_or_not refusal.NoMemory = inl (inr refl)
-free_or_not refusal.Words = inr (λ free. never free) where
-  never : (refusal.Words ≡ refusal.Device) ⊎ (refusal.Words ≡ refusal.NoMemory) → ⊥
+free_or_not (refusal.Params e) = inr never where
+  never : ((refusal.Params e) ≡ refusal.Device) ⊎ ((refusal.Params e) ≡ refusal.NoMemory) → ⊥
   never (inl is) = cc
   never (inr is) = cc
-free_or_not (refusal.Params e) = inr (λ free. never free) where
-  never : (refusal.Params e ≡ refusal.Device) ⊎ (refusal.Params e ≡ refusal.NoMemory) → ⊥
+free_or_not (refusal.Snapshot e) = inr never where
+  never : ((refusal.Snapshot e) ≡ refusal.Device) ⊎ ((refusal.Snapshot e) ≡ refusal.NoMemory) → ⊥
   never (inl is) = cc
   never (inr is) = cc
-free_or_not (refusal.Snapshot e) = inr (λ free. never free) where
-  never : (refusal.Snapshot e ≡ refusal.Device) ⊎ (refusal.Snapshot e ≡ refusal.NoMemory) → ⊥
+free_or_not (refusal.TooHeavy g m) = inr never where
+  never : ((refusal.TooHeavy g m) ≡ refusal.Device) ⊎ ((refusal.TooHeavy g m) ≡ refusal.NoMemory) → ⊥
   never (inl is) = cc
   never (inr is) = cc
-free_or_not (refusal.TooHeavy g m) = inr (λ free. never free) where
-  never : (refusal.TooHeavy g m ≡ refusal.Device) ⊎ (refusal.TooHeavy g m ≡ refusal.NoMemory) → ⊥
+free_or_not refusal.NotStarted = inr never where
+  never : (refusal.NotStarted ≡ refusal.Device) ⊎ (refusal.NotStarted ≡ refusal.NoMemory) → ⊥
   never (inl is) = cc
   never (inr is) = cc
-free_or_not (refusal.TickLimit n) = inr (λ free. never free) where
-  never : (refusal.TickLimit n ≡ refusal.Device) ⊎ (refusal.TickLimit n ≡ refusal.NoMemory) → ⊥
+free_or_not refusal.Started = inr never where
+  never : (refusal.Started ≡ refusal.Device) ⊎ (refusal.Started ≡ refusal.NoMemory) → ⊥
   never (inl is) = cc
   never (inr is) = cc
-free_or_not (refusal.TooMany n) = inr (λ free. never free) where
-  never : (refusal.TooMany n ≡ refusal.Device) ⊎ (refusal.TooMany n ≡ refusal.NoMemory) → ⊥
+free_or_not (refusal.LegOpen t n) = inr never where
+  never : ((refusal.LegOpen t n) ≡ refusal.Device) ⊎ ((refusal.LegOpen t n) ≡ refusal.NoMemory) → ⊥
+  never (inl is) = cc
+  never (inr is) = cc
+free_or_not (refusal.TickLimit n) = inr never where
+  never : ((refusal.TickLimit n) ≡ refusal.Device) ⊎ ((refusal.TickLimit n) ≡ refusal.NoMemory) → ⊥
+  never (inl is) = cc
+  never (inr is) = cc
+free_or_not refusal.InitThere = inr never where
+  never : (refusal.InitThere ≡ refusal.Device) ⊎ (refusal.InitThere ≡ refusal.NoMemory) → ⊥
+  never (inl is) = cc
+  never (inr is) = cc
+free_or_not (refusal.TooMany n) = inr never where
+  never : ((refusal.TooMany n) ≡ refusal.Device) ⊎ ((refusal.TooMany n) ≡ refusal.NoMemory) → ⊥
+  never (inl is) = cc
+  never (inr is) = cc
+free_or_not (refusal.Damaged p) = inr never where
+  never : ((refusal.Damaged p) ≡ refusal.Device) ⊎ ((refusal.Damaged p) ≡ refusal.NoMemory) → ⊥
   never (inl is) = cc
   never (inr is) = cc
 
 -- the first sync failed
 pub counts_unsynced : {H T : Type 0} {m : HostModel H} {by : Image → Image → Type 0} {old new : H}
-    {result : Result T HostError} {error : HostError} → RanSyncing m 1 Fault by old new result → result ≡ Err error
-    → CountsRun m old new (Err (refusal_by_host error))
-counts_unsynced {old = old} {new = new} {error = error} ran is = record {
+    {result : Result T HostError} {error : HostError} (more : ℕ) → RanSyncing m 1 Fault by old new result → result ≡ Err error
+    → CountsRun m (more + 1) old new (Err (of_host error))
+counts_unsynced {old = old} {new = new} {error = error} more ran is = record {
   count = ran.count;
   rose = λ err. ran.rose (is ∙ ap Err (by_device error err));
   spared = λ other. ran.spared (λ err. other (to_device error (sym is ∙ err)));
   refused = λ told. ap (λ (f : Channel → ℕ). f channels.Err) ran.refused;
   heard = λ told ok. absurd (search rules);
-  syncs = λ told. syncs_free (refusal_by_host error) _ _ (free_by_host error) (omega (arith, ran.at_most told));
+  syncs = λ told. syncs_free (more + 1) (of_host error) _ _ (free_by_host error) (omega (arith, ran.at_most told));
 } where
-  by_device : (error : HostError) → ◌≡◌ {A = Result (Unit {0}) Refusal} (Err (refusal_by_host error)) (Err refusal.Device) → error ≡ Fault
+  by_device : (error : HostError) → ◌≡◌ {A = Result (Unit {0}) Refusal} (Err (of_host error)) (Err refusal.Device) → error ≡ Fault
   by_device Fault err = refl
   by_device NoMemory err = cc
 
   to_device : {T : Type 0} (error : HostError) → ◌≡◌ {A = Result T HostError} (Err error) (Err Fault)
-      → ◌≡◌ {A = Result (Unit {0}) Refusal} (Err (refusal_by_host error)) (Err refusal.Device)
+      → ◌≡◌ {A = Result (Unit {0}) Refusal} (Err (of_host error)) (Err refusal.Device)
   to_device Fault err = refl
   to_device NoMemory err = cc
 
-  free_by_host : (error : HostError) → NeedsNoCause (refusal_by_host error)
+  free_by_host : (error : HostError) → NeedsNoCause (of_host error)
   free_by_host Fault = inl refl
   free_by_host NoMemory = inr refl
 
--- `once` refused, behind the first sync
+-- the command refused, behind the first sync
 pub counts_refused : {H S T : Type 0} {m : HostModel H} {one two : Image → Image → Type 0} {old middle new : H}
-    {first : Result S HostError} {result : Result T Refusal} {why : Refusal} → IsOk first
-    → RanSyncing m 1 Fault one old middle first → RanSyncing m once_syncs refusal.Device two middle new result
-    → result ≡ Err why → why ≢ refusal.Words → ((NeedsNoCause why → ⊥) → m.tally new ≡ m.tally middle)
-    → CountsRun m old new (Err why)
-counts_refused {m = m} {old = old} {middle = middle} {new = new} {why = why} ok before after is other unsynced =
+    {first : Result S HostError} {result : Result T Refusal} {why : Refusal} (more : ℕ) → IsOk first
+    → RanSyncing m 1 Fault one old middle first → RanSyncing m more refusal.Device two middle new result
+    → result ≡ Err why → ((NeedsNoCause why → ⊥) → m.tally new ≡ m.tally middle)
+    → CountsRun m (more + 1) old new (Err why)
+counts_refused {m = m} {old = old} {middle = middle} {new = new} {why = why} more ok before after is unsynced =
     let same = before.spared (ok_is_no_error ok) in
     record {
       count = subst (λ n. n ≤ m.faults new) same after.count;
@@ -248,8 +275,8 @@ counts_refused {m = m} {old = old} {middle = middle} {new = new} {why = why} ok 
       refused = λ told. ap (λ (f : Channel → ℕ). f channels.Err) (after.refused ∙ before.refused);
       heard = λ told fine. absurd (search rules);
       syncs = λ told. elim (free_or_not why) [
-        | inl free ↦ syncs_free why _ _ free (omega (arith, before.at_most told, after.at_most told))
-        | inr cause ↦ syncs_once why _ _ other
+        | inl free ↦ syncs_free (more + 1) why _ _ free (omega (arith, before.at_most told, after.at_most told))
+        | inr cause ↦ syncs_once more why _ _
             (ap (λ (t : Tally). t.syncs) (unsynced cause) ∙ before.synced told ok)
       ];
     } where
@@ -258,10 +285,10 @@ counts_refused {m = m} {old = old} {middle = middle} {new = new} {why = why} ok 
 
 -- a line on Out behind all syncs
 pub counts_said : {H T E : Type 0} {m : HostModel H} {fault : E} {by : Image → Image → Type 0} {old middle new : H}
-    {result : Result T E} {line : List ℕ} {answer : Result (Unit {0}) HostError}
-    → RanSyncing m run_syncs fault by old middle result → IsOk result → Spoke m channels.Out line middle new answer
-    → CountsRun m old new (said_answer answer)
-counts_said {m = m} {new = new} {answer = answer} ran ok spoke =
+    {result : Result T E} {line : List ℕ} {answer : Result (Unit {0}) HostError} (syncs : ℕ)
+    → RanSyncing m syncs fault by old middle result → IsOk result → Spoke m channels.Out line middle new answer
+    → CountsRun m syncs old new (said_answer answer)
+counts_said {m = m} {new = new} {answer = answer} syncs ran ok spoke =
     let spared = ran.spared (ok_is_no_error ok) in
     record {
       count = subst (λ n. n ≤ m.faults new) spared spoke.count;
@@ -283,8 +310,81 @@ counts_said {m = m} {new = new} {answer = answer} ran ok spoke =
       went (Err Fault) fine = absurd (search rules)
       went (Err NoMemory) fine = absurd (search rules)
 
-      counted : (answer : Result (Unit {0}) HostError) (before behind : ℕ) → behind ≡ before + run_syncs
-          → SyncsRun (said_answer answer) before behind
+      counted : (answer : Result (Unit {0}) HostError) (before behind : ℕ) → behind ≡ before + syncs
+          → SyncsRun syncs (said_answer answer) before behind
       counted (Ok tt) before behind all = all
       counted (Err Fault) before behind all = omega (arith, all)
       counted (Err NoMemory) before behind all = omega (arith, all)
+
+-- What `show` says.
+
+-- The text is to be said: it is the journal's.
+pub record IsToShow (files : ℕ → List ℕ) (text : List ℕ) : Type 0 where
+  pub log : Log
+  pub journal : IsJournal log (files journal_file)
+  pub text_is : text ≡ show_text log
+
+pub to_show : {old middle : Image} {shown : Shown} (text : List ℕ) → middle ≡ old
+    → ((log : Log) × IsJournal log (middle.file journal_file) × TellsLog log shown)
+    → text ≡ folder_text (record { time = shown.time; ticks = shown.ticks; target = shown.target; gone = shown.gone }) shown.count shown.params
+    → IsToShow old.file text
+to_show {shown = shown} text same found is =
+    let log = found.0 in
+    let tells = found.2 in
+    record {
+      log = log;
+      journal = subst (λ (i : Image). IsJournal log (i.file journal_file)) same found.1;
+      text_is =
+          let time = tells.time in
+          let ticks = tells.ticks in
+          let target = tells.target in
+          let gone = tells.gone in
+          let count = tells.count in
+          let params = tells.params in
+          is ∙ cc;
+    }
+
+shown_by_part : {files : ℕ → List ℕ} {old now : Image} (text : List ℕ) → IsToShow files text → SaysPart channels.Out text old now
+    → JobTouches files job.Show old now
+shown_by_part {old = old} {now = now} text shows part =
+    let P : List ℕ → Type 0 = λ t. SaidFrontOf t (old.said channels.Out) (now.said channels.Out) in
+    record {
+      touches = inr (
+        shows.log,
+        shows.journal,
+        record { files = part.2.files; out = subst P shows.text_is (part.0, part.1, part.2.said) },
+      );
+      err = part.2.others channels.Err Out≢Err;
+    }
+
+-- The text is said behind calls that changed nothing.
+pub leads_shown : {H : Type 0} {m : HostModel H} {files : ℕ → List ℕ} {old middle new : H} (text : List ℕ) → Leads m Stays old middle
+    → (IsTrue m.tells → IsToShow files text) → Leads m (SaysPart channels.Out text) middle new
+    → Leads m (JobTouches files job.Show) old new
+leads_shown {m = m} {files = files} {middle = middle} {new = new} text stays shows said =
+    let later : Leads m (JobTouches files job.Show) middle new = record {
+      contents = λ told. shown_by_part text (shows told) (said.contents told);
+      images = record {
+        follows = λ honest.
+            let shown = shows (m.tells_if_honest honest) in
+            (leads_more {T = JobTouches files job.Show} said (λ before after part. shown_by_part text shown part)).images.follows honest;
+      };
+    } in
+    leads_before (λ image. record { touches = inl refl; err = refl }) stays later
+
+same_image : (a b : Image) → a.file ≡ b.file → a.said ≡ b.said → a ≡ b
+same_image a b files said =
+    ap (λ (f : ℕ → List ℕ). record a { file = f }) files ∙ ap (λ (s : Channel → List ℕ). record b { said = s }) said
+
+-- Behind a sync, calls that change nothing, and a say, what reads is durable.
+pub durable_said : {H : Type 0} (m : HostModel H) {old middle new : H} {channel : Channel} {text : List ℕ} → IsDurable m old
+    → Leads m Stays old middle → Leads m (SaysPart channel text) middle new → IsDurable m new
+durable_said m {old = old} {middle = middle} {new = new} durable stays said = λ image honest is.
+    let second = (said.images.follows honest).now image is in
+    let between = second.0 in
+    let first = (stays.images.follows honest).now between second.1 in
+    let before : between ≡ m.contents old = first.2 ∙ durable first.0 honest first.1 in
+    let reads = said.contents (m.tells_if_honest honest) in
+    let files : image.file ≡ (m.contents new).file =
+    second.2.2.files ∙ ap (λ (i : Image). i.file) (before ∙ sym (stays_contents stays)) ∙ sym reads.2.files in
+    same_image image (m.contents new) files (m.leaves_said new image honest is)

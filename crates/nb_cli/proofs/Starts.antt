@@ -15,8 +15,8 @@ use Rattle.nb_format.specs.Reader.{HasRead}
 use Rattle.nb_format.specs.Snapshot.{IsSnapshot}
 use Rattle.nb_format.specs.SnapshotRefusal.{snapshot_refusal, IsBySnapshot}
 use Rattle.nb_format.specs.Writer.{IsFinishedAs}
-use Rattle.nb_cli.specs.declared.refusal.Refusal.TheVariants as refusal
-use Rattle.nb_cli.specs.Refusal.{NeedsNoCause, refusal_by_reader}
+use Rattle.nb_engine.specs.declared.refusal.Refusal.TheVariants as refusal
+use Rattle.nb_engine.specs.Refusal.{NeedsNoCause, of_snapshot}
 use Rattle.nb_cli.specs.Once.{params_file, init_file, once_file, most_once_bodies, Start, HasStart, list_at, once_refusal, IsRefused}
 
 snapshot_refused : {files : ℕ → List ℕ} {target : ℕ} {params : Params} {error : SnapError} → params_of (files params_file) ≡ Ok params
@@ -27,7 +27,7 @@ snapshot_refused {params = params} {error = error} parameters refused =
 -- what a refusal of the reader is to the program
 pub refused_by_reader : {files : ℕ → List ℕ} {target : ℕ} {params : Params} (error : SnapError) → params_of (files params_file) ≡ Ok params
     → (IsBySnapshot error → snapshot_refusal (files init_file) ≡ Some error)
-    → NeedsNoCause (refusal_by_reader error) ⊎ IsRefused files target (refusal_by_reader error)
+    → NeedsNoCause (of_snapshot error) ⊎ IsRefused files target (of_snapshot error)
 refused_by_reader snap.Fault parameters why = inl (inl refl)
 refused_by_reader snap.NoMemory parameters why = inl (inr refl)
 refused_by_reader snap.Short parameters why = snapshot_refused parameters (why tt)

@@ -8,15 +8,24 @@ use Rattle.nb_host.specs.Image.{Image}
 use Rattle.nb_host.specs.Meaning.{HostModel, Leads, Spoke, Stopped, IsDurable}
 use Rattle.nb_format.specs.Lines.{once_line}
 use Rattle.nb_format.specs.Snapshot.{IsSnapshot}
-use Rattle.nb_cli.specs.declared.refusal.Refusal.{Refusal}
-use Rattle.nb_cli.specs.declared.refusal.Refusal.TheVariants as refusal
-use Rattle.nb_cli.specs.Words.{IsOnce, IsNoCommand}
-use Rattle.nb_cli.specs.Refusal.{status_of, refusal_line, refusal_by_host, NeedsNoCause}
+use Rattle.nb_journal.specs.Form.{Log, IsJournal}
+use Rattle.nb_journal.specs.Offsets.{journal_file}
+use Rattle.nb_engine.specs.declared.refusal.Refusal.{Refusal}
+use Rattle.nb_engine.specs.declared.refusal.Refusal.TheVariants as refusal
+use Rattle.nb_engine.specs.Refusal.{of_host}
+use Rattle.nb_engine.specs.Shown.{IsNotShown}
+use Rattle.nb_cli.specs.declared.stop.Stop.{Stop}
+use Rattle.nb_cli.specs.declared.stop.Stop.TheVariants as stop
+use Rattle.nb_cli.specs.declared.words.Job.{Job}
+use Rattle.nb_cli.specs.declared.words.Job.TheVariants as job
+use Rattle.nb_cli.specs.Words.{IsJob, IsNoCommand}
+use Rattle.nb_cli.specs.Stop.{stop_status, stop_line, IsWithoutCause}
 use Rattle.nb_cli.specs.Once.{once_file, Start, ticks_to, list_at, IsReady, IsRefused}
+use Rattle.nb_cli.specs.Show.{show_text}
 
--- the statuses of the program: 0 where the command was done, and those of the refusals
+-- the statuses of the program: 0 where the command was done, 1 where the words are none, and those of the refusals
 abbrev pub statuses : List ℕ
-statuses = 0 ∷ 1 ∷ 2 ∷ 3 ∷ 4 ∷ 8 ∷ 10 ∷ 11 ∷ 13 ∷ []
+statuses = 0 ∷ 1 ∷ 2 ∷ 3 ∷ 4 ∷ 5 ∷ 8 ∷ 10 ∷ 11 ∷ 12 ∷ 13 ∷ []
 
 -- The status is one of the two to which each status that has a cause yields: that of a fault of the device, 11, and that of
 -- want of memory, 13.
@@ -28,14 +37,25 @@ pub record ComesWhere (expected status : ℕ) (Cause : Type 0) : Type 0 where
   pub only : status ≡ expected → Cause
   pub always : Cause → (status ≡ expected) ⊎ Yields status
 
--- The cause of a refusal, by what the words are and what the files hold. At most one holds.
-abbrev pub HasCause : List (List ℕ) → (ℕ → List ℕ) → Refusal → Type 0
+-- A command can be done, by what the files hold: `once` from a start, and `show` of a journal.
+abbrev pub IsJobReady : (ℕ → List ℕ) → Job → Type 0
+IsJobReady files (job.Once target) = (start : Start) × IsReady files target start
+IsJobReady files job.Show = (log : Log) × IsJournal log (files journal_file)
+
+-- The cause for which a command refuses by what its files hold.
+abbrev pub IsJobRefused : (ℕ → List ℕ) → Job → Refusal → Type 0
+IsJobRefused files (job.Once target) why = IsRefused files target why
+IsJobRefused files job.Show why = IsNotShown (files journal_file) why
+
+-- The cause for which the program isn't done, by what the words are and what the files hold. At most one holds.
+abbrev pub HasCause : List (List ℕ) → (ℕ → List ℕ) → Stop → Type 0
 HasCause words files why =
-    ((why ≡ refusal.Words) × IsNoCommand words) ⊎ ((target : ℕ) × IsOnce words target × IsRefused files target why)
+    ((why ≡ stop.Words) × IsNoCommand words)
+    ⊎ ((job : Job) × (refusal : Refusal) × (why ≡ stop.Refused refusal) × IsJob words job × IsJobRefused files job refusal)
 
 -- A cause of this status holds.
 abbrev pub HasCauseOf : List (List ℕ) → (ℕ → List ℕ) → ℕ → Type 0
-HasCauseOf words files status = (why : Refusal) × HasCause words files why × (status_of why ≡ status)
+HasCauseOf words files status = (why : Stop) × HasCause words files why × (stop_status why ≡ status)
 
 -- `once` is done: its file is the snapshot of the list at the target, its line was said, and nothing else changed.
 pub record IsDone (target : ℕ) (start : Start) (old new : Image) : Type 0 where
@@ -50,25 +70,45 @@ SaidFrontOf text old new = (n : ℕ) × (n ≤ length text) × (new ≡ old ++ t
 
 -- What `once` may have changed at some moment, done or not: its own file, and a front of its line on Out, of which nothing
 -- is said before the file is the snapshot.
-pub record IsWithin (target : ℕ) (start : Start) (old new : Image) : Type 0 where
+pub record IsPartlyDone (target : ℕ) (start : Start) (old new : Image) : Type 0 where
   pub others : (number : ℕ) → number ≢ once_file → new.file number ≡ old.file number
   pub out : SaidFrontOf (once_line target (ticks_to target start) (escaped_count (list_at target start))) (old.said channels.Out) (new.said channels.Out)
   pub said_last : (new.said channels.Out ≡ old.said channels.Out) ⊎ IsSnapshot (new.file once_file) (list_at target start) target
+
+-- `show` is done: the journal's text was said, and nothing else changed.
+pub record IsShown (log : Log) (old new : Image) : Type 0 where
+  pub files : new.file ≡ old.file
+  pub out : new.said channels.Out ≡ old.said channels.Out ++ show_text log
+  pub err : new.said channels.Err ≡ old.said channels.Err
+
+-- What `show` may have changed at some moment, done or not: no file, and a front of its text on Out.
+pub record IsPartlyShown (log : Log) (old new : Image) : Type 0 where
+  pub files : new.file ≡ old.file
+  pub out : SaidFrontOf (show_text log) (old.said channels.Out) (new.said channels.Out)
+
+-- A command is done.
+abbrev pub IsJobDone : Job → Image → Image → Type 0
+IsJobDone (job.Once target) old new = (start : Start) × IsReady old.file target start × IsDone target start old new
+IsJobDone job.Show old new = (log : Log) × IsJournal log (old.file journal_file) × IsShown log old new
+
+-- What a command that can be done, where the files were these, may have changed at some moment, done or not.
+abbrev pub IsJobPartlyDone : (ℕ → List ℕ) → Job → Image → Image → Type 0
+IsJobPartlyDone files (job.Once target) old new = (start : Start) × IsReady files target start × IsPartlyDone target start old new
+IsJobPartlyDone files job.Show old new = (log : Log) × IsJournal log (files journal_file) × IsPartlyShown log old new
 
 -- Nothing changed but what was said on Err.
 pub record IsUntouched (old new : Image) : Type 0 where
   pub files : new.file ≡ old.file
   pub out : new.said channels.Out ≡ old.said channels.Out
 
--- What a command may have changed at some moment, where its words and the files were these: nothing, or what `once` may
--- where it can be done.
+-- What the program may have changed at some moment, where its words and the files were these: nothing, or what the command
+-- may where it can be done.
 abbrev pub Touches : List (List ℕ) → (ℕ → List ℕ) → Image → Image → Type 0
-Touches words files old new =
-    IsUntouched old new ⊎ ((target : ℕ) × (start : Start) × IsOnce words target × IsReady files target start × IsWithin target start old new)
+Touches words files old new = IsUntouched old new ⊎ ((job : Job) × IsJob words job × IsJobPartlyDone files job old new)
 
--- What a run of `once` may have changed at some moment, where the files were these.
-pub record OnceTouches (files : ℕ → List ℕ) (target : ℕ) (old new : Image) : Type 0 where
-  pub touches : (new ≡ old) ⊎ ((start : Start) × IsReady files target start × IsWithin target start old new)
+-- What a run of a command may have changed at some moment, where the files were these. It says nothing on Err.
+pub record JobTouches (files : ℕ → List ℕ) (job : Job) (old new : Image) : Type 0 where
+  pub touches : (new ≡ old) ⊎ IsJobPartlyDone files job old new
   pub err : new.said channels.Err ≡ old.said channels.Err
 
 -- What a run may have changed at some moment. It says nothing on Err.
@@ -80,22 +120,23 @@ pub record RunTouches (words : List (List ℕ)) (files : ℕ → List ℕ) (old 
 abbrev pub once_syncs : ℕ
 once_syncs = 5
 
--- how often the program does: once before, so that what it reads is durable
-abbrev pub run_syncs : ℕ
-run_syncs = once_syncs + 1
+-- How often the program syncs where a command is done: once before it, so that what it reads is durable, and as often as
+-- the command does.
+abbrev pub syncs_of : Job → ℕ
+syncs_of (job.Once _) = once_syncs + 1
+syncs_of job.Show = 1
 
--- How often a run syncs that ends so, before and behind: all its syncs where it is done; none where the words are no
--- command; the first one alone where it can't be done; and at most all where the device failed or memory is wanting.
-abbrev pub SyncsRun : Result (Unit {0}) Refusal → ℕ → ℕ → Type 0
-SyncsRun (Ok _) before behind = behind ≡ before + run_syncs
-SyncsRun (Err refusal.Words) before behind = behind ≡ before
-SyncsRun (Err refusal.Device) before behind = behind ≤ before + run_syncs
-SyncsRun (Err refusal.NoMemory) before behind = behind ≤ before + run_syncs
-SyncsRun (Err why) before behind = behind ≡ before + 1
+-- How often a run syncs that ends so, before and behind, by how often it does where it is done: the first sync alone where
+-- it can't be done, and at most all where the device failed or memory is wanting.
+abbrev pub SyncsRun : ℕ → Result (Unit {0}) Refusal → ℕ → ℕ → Type 0
+SyncsRun syncs (Ok _) before behind = behind ≡ before + syncs
+SyncsRun syncs (Err refusal.Device) before behind = behind ≤ before + syncs
+SyncsRun syncs (Err refusal.NoMemory) before behind = behind ≤ before + syncs
+SyncsRun syncs (Err why) before behind = behind ≡ before + 1
 
 -- What a run owes to the counts. Device stands for a fault: it comes where the run came to an end at one, and every other
 -- answer where there was none. No say on Err was refused, and where it is done none at all.
-pub record CountsRun {H : Type 0} (m : HostModel H) (old new : H) (result : Result (Unit {0}) Refusal) : Type 0 where
+pub record CountsRun {H : Type 0} (m : HostModel H) (all : ℕ) (old new : H) (result : Result (Unit {0}) Refusal) : Type 0 where
   pub count : m.faults old ≤ m.faults new
   pub rose : result ≡ Err refusal.Device → Stopped m old new
   pub spared : result ≢ Err refusal.Device → m.faults new ≡ m.faults old
@@ -103,7 +144,14 @@ pub record CountsRun {H : Type 0} (m : HostModel H) (old new : H) (result : Resu
       → (m.tally new).refused_says channels.Err ≡ (m.tally old).refused_says channels.Err
   pub heard : IsTrue m.tells → IsOk result
       → (m.tally new).refused_says channels.Out ≡ (m.tally old).refused_says channels.Out
-  pub syncs : IsTrue m.tells → SyncsRun result (m.tally old).syncs (m.tally new).syncs
+  pub syncs : IsTrue m.tells → SyncsRun all result (m.tally old).syncs (m.tally new).syncs
+
+-- The same of the program: where the words are no command no call was made at all.
+abbrev pub CountsWords : {H : Type 0} → HostModel H → List (List ℕ) → H → H → Result (Unit {0}) Stop → Type 0
+CountsWords m words old new (Ok _) = (job : Job) × IsJob words job × CountsRun m (syncs_of job) old new (Ok tt)
+CountsWords m words old new (Err stop.Words) = new ≡ old
+CountsWords m words old new (Err (stop.Refused why)) =
+    (job : Job) × IsJob words job × CountsRun m (syncs_of job) old new (Err why)
 
 -- The run began with a sync: nothing was done before what reads was durable.
 pub record HasBegun {H : Type 0} (m : HostModel H) (words : List (List ℕ)) (old new : H) : Type 0 where
@@ -112,12 +160,12 @@ pub record HasBegun {H : Type 0} (m : HostModel H) (words : List (List ℕ)) (ol
   pub durable : IsDurable m synced
   pub since : Leads m (RunTouches words (m.contents old).file) synced new
 
--- The same of a run of `once`.
-pub record OnceBegins {H : Type 0} (m : HostModel H) (target : ℕ) (old new : H) : Type 0 where
+-- The same of a run of a command.
+pub record JobBegins {H : Type 0} (m : HostModel H) (job : Job) (old new : H) : Type 0 where
   pub synced : H
   pub before : Leads m Stays old synced
   pub durable : IsDurable m synced
-  pub since : Leads m (OnceTouches (m.contents old).file target) synced new
+  pub since : Leads m (JobTouches (m.contents old).file job) synced new
 
 -- It did, or nothing was done at all.
 abbrev pub HasBegunOrNot : {H : Type 0} → HostModel H → List (List ℕ) → H → H → Type 0
@@ -125,31 +173,30 @@ HasBegunOrNot m words old new = Leads m Stays old new ⊎ HasBegun m words old n
 
 -- The command was done: what it did is durable, and no fault was met.
 pub record HasDone {H : Type 0} (m : HostModel H) (words : List (List ℕ)) (old new : H) : Type 0 where
-  pub done : IsTrue m.tells → (target : ℕ) × (start : Start) × IsOnce words target
-      × IsReady (m.contents old).file target start × IsDone target start (m.contents old) (m.contents new)
+  pub done : IsTrue m.tells → (job : Job) × IsJob words job × IsJobDone job (m.contents old) (m.contents new)
   pub durable : IsDurable m new
   pub begun : HasBegun m words old new
-  pub counts : CountsRun m old new (Ok tt)
+  pub counts : CountsWords m words old new (Ok tt)
 
--- the status of a refusal, once its line was said on Err, or wasn't: a device fault and want of memory stay what they are
-abbrev pub status_behind : Refusal → Result (Unit {0}) HostError → ℕ
-status_behind why (Ok _) = status_of why
-status_behind refusal.Device (Err _) = status_of refusal.Device
-status_behind refusal.NoMemory (Err _) = status_of refusal.NoMemory
-status_behind why (Err error) = status_of (refusal_by_host error)
+-- the status, once its line was said on Err, or wasn't: a device fault and want of memory stay what they are
+abbrev pub status_behind : Stop → Result (Unit {0}) HostError → ℕ
+status_behind why (Ok _) = stop_status why
+status_behind (stop.Refused refusal.Device) (Err _) = stop_status (stop.Refused refusal.Device)
+status_behind (stop.Refused refusal.NoMemory) (Err _) = stop_status (stop.Refused refusal.NoMemory)
+status_behind why (Err error) = stop_status (stop.Refused (of_host error))
 
 -- A refusal was told: its line was said on Err, by one call, and this is the status.
-pub record WasTold {H : Type 0} (m : HostModel H) (why : Refusal) (old new : H) (status : ℕ) : Type 0 where
+pub record WasTold {H : Type 0} (m : HostModel H) (why : Stop) (old new : H) (status : ℕ) : Type 0 where
   pub answer : Result (Unit {0}) HostError
-  pub spoke : Spoke m channels.Err (refusal_line why) old new answer
+  pub spoke : Spoke m channels.Err (stop_line why) old new answer
   pub status_is : status ≡ status_behind why answer
 
--- The command was refused so: the run ended with a refusal that has a cause, or is a device fault or want of memory; and
--- then nothing was done but that the refusal was told.
+-- The program was refused so: the run ended for a cause, or with a device fault or want of memory; and then nothing was done
+-- but that this was told.
 pub record WasRefused {H : Type 0} (m : HostModel H) (words : List (List ℕ)) (old new : H) (status : ℕ) : Type 0 where
-  pub why : Refusal
+  pub why : Stop
   pub ended : H
-  pub cause : IsTrue m.tells → HasCause words (m.contents old).file why ⊎ NeedsNoCause why
+  pub cause : IsTrue m.tells → HasCause words (m.contents old).file why ⊎ IsWithoutCause why
   pub run : HasBegunOrNot m words old ended
-  pub counts : CountsRun m old ended (Err why)
+  pub counts : CountsWords m words old ended (Err why)
   pub told : WasTold m why ended new status

@@ -1,5 +1,6 @@
 pub mod Words
-pub mod Refusal
+pub mod Stop
 pub mod Once
+pub mod Show
 pub mod Done
 pub mod Answer

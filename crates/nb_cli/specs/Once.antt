@@ -12,8 +12,8 @@ use Rattle.nb_format.specs.declared.snap_error.SnapError.{SnapError}
 use Rattle.nb_format.specs.ParamsText.{params_of}
 use Rattle.nb_format.specs.Snapshot.{IsSnapshot}
 use Rattle.nb_format.specs.SnapshotRefusal.{snapshot_refusal}
-use Rattle.nb_cli.specs.declared.refusal.Refusal.{Refusal}
-use Rattle.nb_cli.specs.declared.refusal.Refusal.TheVariants as refusal
+use Rattle.nb_engine.specs.declared.refusal.Refusal.{Refusal}
+use Rattle.nb_engine.specs.declared.refusal.Refusal.TheVariants as refusal
 
 -- the number of the file `params`
 abbrev pub params_file : ℕ

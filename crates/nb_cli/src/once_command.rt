@@ -10,14 +10,15 @@ ghost use Rattle.nb_model.specs.Valid.{AreInRange, IsValidBody, IsValidBodies};
 ghost use Rattle.nb_host.specs.Image.{FileBecomes};
 ghost use Rattle.nb_host.specs.Meaning.{Over, RanSyncing, IsDurable};
 ghost use Rattle.nb_format.specs.Writer.{IsFinishedAs};
-ghost use Rattle.nb_cli.specs.Refusal.{NeedsNoCause, IsSayable};
+ghost use Rattle.nb_engine.specs.Refusal.{NeedsNoCause};
+ghost use Rattle.nb_cli.specs.Stop.{IsGiven};
 ghost use Rattle.nb_cli.specs.Once.{once_file, most_once_bodies, Start, ticks_to, list_at, start_refusal as refusal_of_start, once_refusal as refusal_of_once, IsReady, IsRefused};
 ghost use Rattle.nb_cli.specs.Answer.{once_syncs};
 ghost use Rattle.nb_cli.specs.Done.{TellsOf, BecomesAny, MayWrite};
 
 use crate::init_file::{INIT_FILE, read_bodies, skim};
 use crate::params_file::parameters;
-use crate::refusal::Refusal;
+use nb_engine::Refusal;
 use nb_fixed::plain_tick;
 use nb_format::{Fresh, SnapReader};
 use nb_host::{Host, HostError};
@@ -50,8 +51,7 @@ pub fn once<H: Host>(alloc: Global, host: &mut H, target: u64) -> Result<Done, R
         (H.meaning.contents host.old) (H.meaning.contents host.new)) }
     ensures cause { IfErr result (λ why. IsTrue H.meaning.tells
         → NeedsNoCause why ⊎ IsRefused (H.meaning.contents host.old).file target why) }
-    ensures words { result ≢ Err Refusal.Words }
-    ensures sayable { IfErr result IsSayable }
+    ensures given { IfErr result IsGiven }
 
     // What it leaves at each moment: all as it was, until it comes so far as to write.
     ensures durable { OnOk result (IsDurable H.meaning host.new) }

@@ -6,11 +6,12 @@ ghost use Rattle.nb_format.specs.ParamsText.{params_of};
 ghost use Rattle.nb_model.specs.Valid.{AreInRange};
 ghost use Rattle.nb_host.specs.Crashes.{Stays};
 ghost use Rattle.nb_host.specs.Meaning.{Ran};
-ghost use Rattle.nb_cli.specs.declared.refusal.Refusal.TheVariants as refusal;
+ghost use Rattle.nb_engine.specs.declared.refusal.Refusal.TheVariants as refusal;
 ghost use Rattle.nb_cli.specs.Once.{params_file, HasNoParams};
-ghost use Rattle.nb_cli.specs.Refusal.{NeedsNoCause, IsSayable};
+ghost use Rattle.nb_engine.specs.Refusal.{NeedsNoCause};
+ghost use Rattle.nb_cli.specs.Stop.{IsGiven};
 
-use crate::refusal::Refusal;
+use nb_engine::Refusal;
 use nb_format::{MOST_TEXT, ParamsError, read_params};
 use nb_host::Host;
 use nb_model::Params;
@@ -27,8 +28,7 @@ pub fn parameters<H: Host>(alloc: Global, host: &mut H) -> Result<Params, Refusa
     ensures cause { IfErr result (λ why. IsTrue H.meaning.tells → NeedsNoCause why
         ⊎ ((error : ParamsError) × HasNoParams (H.meaning.contents host.old).file error
         × (why ≡ refusal.Params error))) }
-    ensures words { result ≢ Err Refusal.Words }
-    ensures sayable { IfErr result IsSayable }
+    ensures given { IfErr result IsGiven }
     ensures ran { Ran H.meaning Refusal.Device Stays host.old host.new result }
 {
     let length = host.len(PARAMS_FILE)?;

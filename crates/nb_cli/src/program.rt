@@ -3,16 +3,20 @@
 ghost use Rattle.std.specs.Prelude.{◌≡◌, ◌≢◌, ◌⊎◌, ℕ, ◌↔◌, IsTrue, OnOk, IfErr, Err, map, Contains};
 ghost use Rattle.nb_host.specs.Crashes.{Stays};
 ghost use Rattle.nb_host.specs.Meaning.{Leads, IsDurable};
-ghost use Rattle.nb_cli.specs.declared.refusal.Refusal.{Refusal};
-ghost use Rattle.nb_cli.specs.Words.{IsOnce, IsNoCommand};
-ghost use Rattle.nb_cli.specs.Refusal.{NeedsNoCause, IsSayable};
-ghost use Rattle.nb_cli.specs.Once.{Start, IsReady, IsRefused};
-ghost use Rattle.nb_cli.specs.Answer.{statuses, Yields, ComesWhere, HasCause, HasCauseOf, IsDone, IsUntouched, Touches, CountsRun, HasBegun, HasBegunOrNot, OnceBegins, HasDone, WasTold, WasRefused};
+ghost use Rattle.nb_engine.specs.Refusal.{NeedsNoCause};
+ghost use Rattle.nb_cli.specs.declared.stop.Stop.{Stop};
+ghost use Rattle.nb_cli.specs.declared.words.Job.{Job};
+ghost use Rattle.nb_cli.specs.declared.words.Job.TheVariants as job;
+ghost use Rattle.nb_cli.specs.Words.{IsJob, IsNoCommand};
+ghost use Rattle.nb_cli.specs.Stop.{IsGiven, IsSayable, IsWithoutCause};
+ghost use Rattle.nb_cli.specs.Answer.{statuses, Yields, ComesWhere, HasCause, HasCauseOf, IsJobReady, IsJobRefused, IsJobDone, IsUntouched, Touches, CountsRun, CountsWords, syncs_of, HasBegun, HasBegunOrNot, JobBegins, HasDone, WasTold, WasRefused};
 
 use crate::once_command::once;
-use crate::refusal::Refusal;
+use crate::show_command::folder_text;
 use crate::status::DONE;
-use crate::words::once_target;
+use crate::stop::Stop;
+use crate::words::{Job, job_of};
+use nb_engine::{Refusal, show};
 use nb_format::once_line;
 use nb_host::{Channel, Host};
 use std::alloc::Global;
@@ -27,14 +31,14 @@ pub fn nbody<H: Host>(alloc: Global, words: &[&str], host: &mut H) -> u8
     ensures causes { (status : ℕ) → IsTrue H.meaning.tells → status ≢ 0 → (Yields status → ⊥)
         → ComesWhere status result
         (HasCauseOf (map (λ w. w.now) words.now) (H.meaning.contents host.old).file status) }
-    ensures complete { (target : ℕ) (start : Start) → IsOnce (map (λ w. w.now) words.now) target
-        → IsTrue H.meaning.tells → IsReady (H.meaning.contents host.old).file target start
+    ensures complete { (job : Job) → IsJob (map (λ w. w.now) words.now) job
+        → IsTrue H.meaning.tells → IsJobReady (H.meaning.contents host.old).file job
         → (result ≡ 0) ⊎ Yields result }
 
     // What the command does, and what a refusal is and leaves.
     ensures done { result ≡ 0 → HasDone H.meaning (map (λ w. w.now) words.now) host.old host.new }
     ensures refused { result ≢ 0 → WasRefused H.meaning (map (λ w. w.now) words.now) host.old host.new result }
-    ensures untouched { (why : Refusal) → IsTrue H.meaning.tells
+    ensures untouched { (why : Stop) → IsTrue H.meaning.tells
         → HasCause (map (λ w. w.now) words.now) (H.meaning.contents host.old).file why
         → IsUntouched (H.meaning.contents host.old) (H.meaning.contents host.new) }
 
@@ -44,44 +48,63 @@ pub fn nbody<H: Host>(alloc: Global, words: &[&str], host: &mut H) -> u8
 {
     match run(alloc, words, host) {
         Ok(()) => DONE,
-        Err(refusal) => say_refusal(host, refusal),
+        Err(why) => say_why(host, why),
     }
 }
 
-/// Does what the words ask for, and says its line on Out. It says nothing on Err.
-fn run<H: Host>(alloc: Global, words: &[&str], host: &mut H) -> Result<(), Refusal>
-    ensures words { (result ≡ Err Refusal.Words) ↔ IsNoCommand (map (λ w. w.now) words.now) }
+/// Does what the words ask for, and says its text on Out. It says nothing on Err.
+fn run<H: Host>(alloc: Global, words: &[&str], host: &mut H) -> Result<(), Stop>
+    ensures words { (result ≡ Err Stop.Words) ↔ IsNoCommand (map (λ w. w.now) words.now) }
     ensures cause { IfErr result (λ why. IsTrue H.meaning.tells
-        → HasCause (map (λ w. w.now) words.now) (H.meaning.contents host.old).file why ⊎ NeedsNoCause why) }
+        → HasCause (map (λ w. w.now) words.now) (H.meaning.contents host.old).file why ⊎ IsWithoutCause why) }
     ensures sayable { IfErr result IsSayable }
     ensures done { OnOk result (IsTrue H.meaning.tells
-        → (target : ℕ) × (start : Start) × IsOnce (map (λ w. w.now) words.now) target
-        × IsReady (H.meaning.contents host.old).file target start
-        × IsDone target start (H.meaning.contents host.old) (H.meaning.contents host.new)) }
+        → (job : Job) × IsJob (map (λ w. w.now) words.now) job
+        × IsJobDone job (H.meaning.contents host.old) (H.meaning.contents host.new)) }
     ensures durable { OnOk result (IsDurable H.meaning host.new) }
     ensures begun { OnOk result (HasBegun H.meaning (map (λ w. w.now) words.now) host.old host.new) }
     ensures run { HasBegunOrNot H.meaning (map (λ w. w.now) words.now) host.old host.new }
-    ensures counts { CountsRun H.meaning host.old host.new result }
+    ensures counts { CountsWords H.meaning (map (λ w. w.now) words.now) host.old host.new result }
 {
-    match once_target(words) {
-        Some(target) => run_once(alloc, host, target),
-        None => Err(Refusal::Words),
+    match job_of(words) {
+        Some(job) => match run_job(alloc, host, job) {
+            Ok(()) => Ok(()),
+            Err(refusal) => Err(Stop::Refused(refusal)),
+        },
+        None => Err(Stop::Words),
+    }
+}
+
+/// Does the command, and says its text on Out.
+fn run_job<H: Host>(alloc: Global, host: &mut H, job: Job) -> Result<(), Refusal>
+    ensures cause { IfErr result (λ why. IsTrue H.meaning.tells
+        → NeedsNoCause why ⊎ IsJobRefused (H.meaning.contents host.old).file job why) }
+    ensures given { IfErr result IsGiven }
+    ensures done { OnOk result (IsTrue H.meaning.tells
+        → IsJobDone job (H.meaning.contents host.old) (H.meaning.contents host.new)) }
+    ensures durable { OnOk result (IsDurable H.meaning host.new) }
+    ensures begun { OnOk result (JobBegins H.meaning job host.old host.new) }
+    ensures run { Leads H.meaning Stays host.old host.new ⊎ JobBegins H.meaning job host.old host.new }
+    ensures counts { CountsRun H.meaning (syncs_of job) host.old host.new result }
+{
+    match job {
+        Job::Once(target) => run_once(alloc, host, target),
+        Job::Show => run_show(alloc, host),
     }
 }
 
 /// Does the command `once`, and says its line on Out.
 fn run_once<H: Host>(alloc: Global, host: &mut H, target: u64) -> Result<(), Refusal>
-    ensures words { result ≢ Err Refusal.Words }
     ensures cause { IfErr result (λ why. IsTrue H.meaning.tells
-        → NeedsNoCause why ⊎ IsRefused (H.meaning.contents host.old).file target why) }
-    ensures sayable { IfErr result IsSayable }
+        → NeedsNoCause why ⊎ IsJobRefused (H.meaning.contents host.old).file (job.Once target) why) }
+    ensures given { IfErr result IsGiven }
     ensures done { OnOk result (IsTrue H.meaning.tells
-        → (start : Start) × IsReady (H.meaning.contents host.old).file target start
-        × IsDone target start (H.meaning.contents host.old) (H.meaning.contents host.new)) }
+        → IsJobDone (job.Once target) (H.meaning.contents host.old) (H.meaning.contents host.new)) }
     ensures durable { OnOk result (IsDurable H.meaning host.new) }
-    ensures begun { OnOk result (OnceBegins H.meaning target host.old host.new) }
-    ensures run { Leads H.meaning Stays host.old host.new ⊎ OnceBegins H.meaning target host.old host.new }
-    ensures counts { CountsRun H.meaning host.old host.new result }
+    ensures begun { OnOk result (JobBegins H.meaning (job.Once target) host.old host.new) }
+    ensures run { Leads H.meaning Stays host.old host.new
+        ⊎ JobBegins H.meaning (job.Once target) host.old host.new }
+    ensures counts { CountsRun H.meaning (syncs_of (job.Once target)) host.old host.new result }
 {
     host.sync()?;
     let done = once(alloc, host, target)?;
@@ -90,19 +113,38 @@ fn run_once<H: Host>(alloc: Global, host: &mut H, target: u64) -> Result<(), Ref
     Ok(())
 }
 
-/// Says the refusal's line on Err, and answers the status: that of the refusal, or, where the line couldn't
-/// be said, that of what kept it from being said. A device fault and want of memory stay what they are.
-fn say_refusal<H: Host>(host: &mut H, refusal: Refusal) -> u8
-    requires { IsSayable refusal }
-    ensures { WasTold H.meaning refusal host.old host.new result }
+/// Does the command `show`, and says its text on Out, by one call.
+fn run_show<H: Host>(alloc: Global, host: &mut H) -> Result<(), Refusal>
+    ensures cause { IfErr result (λ why. IsTrue H.meaning.tells
+        → NeedsNoCause why ⊎ IsJobRefused (H.meaning.contents host.old).file job.Show why) }
+    ensures given { IfErr result IsGiven }
+    ensures done { OnOk result (IsTrue H.meaning.tells
+        → IsJobDone job.Show (H.meaning.contents host.old) (H.meaning.contents host.new)) }
+    ensures durable { OnOk result (IsDurable H.meaning host.new) }
+    ensures begun { OnOk result (JobBegins H.meaning job.Show host.old host.new) }
+    ensures run { Leads H.meaning Stays host.old host.new ⊎ JobBegins H.meaning job.Show host.old host.new }
+    ensures counts { CountsRun H.meaning (syncs_of job.Show) host.old host.new result }
 {
-    let line = refusal.line();
+    host.sync()?;
+    let shown = show(host)?;
+    let text = folder_text(alloc, &shown)?;
+    host.say(Channel::Out, &text)?;
+    Ok(())
+}
+
+/// Says on Err why the program isn't done, and answers the status: that of the reason, or, where its line
+/// couldn't be said, that of what kept it from being said. A device fault and want of memory stay what they are.
+fn say_why<H: Host>(host: &mut H, why: Stop) -> u8
+    requires { IsSayable why }
+    ensures { WasTold H.meaning why host.old host.new result }
+{
+    let line = why.line();
     let Err(error) = host.say(Channel::Err, line.bytes()) else {
-        return refusal.status();
+        return why.status();
     };
-    match refusal {
-        Refusal::Device | Refusal::NoMemory => refusal.status(),
-        _ => Refusal::from(error).status(),
+    match why {
+        Stop::Refused(Refusal::Device | Refusal::NoMemory) => why.status(),
+        _ => Stop::Refused(Refusal::from(error)).status(),
     }
 }
 

@@ -15,14 +15,29 @@ pub const SNAPSHOT: u8 = 3;
 /// The bodies are too heavy for the constant of gravity.
 pub const TOO_HEAVY: u8 = 4;
 
+/// No run is started in the folder.
+pub const NOT_STARTED: u8 = 5;
+
+/// A run is started in the folder. No command gives it yet.
+pub const STARTED: u8 = 6;
+
+/// The last leg isn't at its target. No command gives it yet.
+pub const LEG_OPEN: u8 = 7;
+
 /// More ticks are asked for than a run can have.
 pub const TICK_LIMIT: u8 = 8;
+
+/// The parameters or the initial snapshot are there already. No command gives it yet.
+pub const INIT_THERE: u8 = 9;
 
 /// There are more bodies than `once` takes.
 pub const TOO_MANY: u8 = 10;
 
 /// The device failed: the host's count of faults rose.
 pub const DEVICE: u8 = 11;
+
+/// A file isn't what it has to be.
+pub const DAMAGED: u8 = 12;
 
 /// Memory is wanting.
 pub const MEMORY: u8 = 13;

@@ -11,6 +11,8 @@ const PARAMS: u64 = 0;
 
 const INIT: u64 = 1;
 
+const JOURNAL: u64 = 2;
+
 const ONCE: u64 = 8;
 
 /// The middle of the box on an axis, 2^39.
@@ -310,6 +312,8 @@ fn words(rt: HostRuntime) -> Result<(), Fail> {
         &["once", "1 "],
         &["once", "1", "2"],
         &["go", "1"],
+        &["show", "1"],
+        &["shown"],
         &["1"],
         // 21 digits, and 2^64
         &["once", "000000000000000000001"],
@@ -631,5 +635,107 @@ fn a_refusal_unsaid(rt: HostRuntime) -> Result<(), Fail> {
     let (status, host) = after(rt.alloc(), b"#", &ONE_BODY, &[4], &["once", "1"])?;
     assert_eq!(rt; (status, host.calls()), (11, 4));
     assert_eq!(rt; host.said(Channel::Err), b"nbody: params: ".as_slice());
+    Ok(())
+}
+
+/// The header of a journal of three bodies from time 4 on, when one of them was out.
+const FRONT: [u8; 88] = [
+    0x53, 0x4e, 0x42, 0x4a, 0x52, 0x4e, 0x4c, 0x32, 0, 0xca, 0x9a, 0x3b, 0, 0, 0, 0, //
+    1, 0, 0, 0, 0, 0, 0, 0, 2, 0, 0, 0, 0, 0, 0, 0, //
+    5, 0, 0, 0, 0, 0, 0, 0, 8, 0, 0, 0, 0, 0, 0, 0, //
+    100, 0, 0, 0, 0, 0, 0, 0, 3, 0, 0, 0, 0, 0, 0, 0, //
+    4, 0, 0, 0, 0, 0, 0, 0, 1, 0, 0, 0, 0, 0, 0, 0, //
+    1, 0, 0, 0, 0, 0, 0, 0,
+];
+
+/// The leg to time 9.
+const LEG: [u8; 32] = [
+    0x47, 0x4c, 0, 0, 0, 0, 0, 0, 9, 0, 0, 0, 0, 0, 0, 0, //
+    0, 0, 0, 0, 0, 0, 0, 0, 0, 0, 0, 0, 0, 0, 0, 0,
+];
+
+/// Tick 1, after which two bodies are out.
+const TICK: [u8; 32] = [
+    0x47, 0x54, 0, 0, 0, 0, 0, 0, 1, 0, 0, 0, 0, 0, 0, 0, //
+    2, 0, 0, 0, 0, 0, 0, 0, 0, 0, 0, 0, 0, 0, 0, 0,
+];
+
+/// What `show` says of the journal with the leg and the tick.
+const SHOWN: &[u8] = b"folder time 5 ticks 1 target 9 bodies 3 out 2\n\
+    grav = 1000000000\ntheta_num = 1\ntheta_den = 2\nsoft = 5\nleaf = 8\nevery = 100\nedge = wrap\n";
+
+/// The bytes of the journal with the leg alone.
+fn leg_bytes() -> [u8; 8192] {
+    let mut bytes = [0; 8192];
+    bytes[..88].copy_from_slice(&FRONT);
+    bytes[4096..4128].copy_from_slice(&LEG);
+    bytes
+}
+
+/// The bytes of the journal with the leg and the tick.
+fn tick_bytes() -> [u8; 8192] {
+    let mut bytes = leg_bytes();
+    bytes[4128..4160].copy_from_slice(&TICK);
+    bytes
+}
+
+/// A host with that journal, where the calls with these numbers fail.
+fn journal_host(alloc: Global, failing: &[u64]) -> Result<MemoryHost, Fail> {
+    let mut host = host_of(alloc, &ONE_BODY)?;
+    host.with_file(JOURNAL, &tick_bytes())?;
+    host.fail_at(failing)?;
+    Ok(host)
+}
+
+#[test]
+fn shows_a_journal(rt: HostRuntime) -> Result<(), Fail> {
+    let mut host = journal_host(rt.alloc(), &[])?;
+    let journal = Vec::from_slice(rt.alloc(), host.bytes(JOURNAL))?;
+    // A sync, the length of the journal, its header, a page of entries, and the text.
+    assert_eq!(rt; run_words(rt.alloc(), &["show"], &mut host), 0);
+    assert_eq!(rt; host.calls(), 5);
+    assert_eq!(rt; host.said(Channel::Out), SHOWN);
+    assert_eq!(rt; host.said(Channel::Err), b"".as_slice());
+    assert_eq!(rt; host.bytes(JOURNAL), journal.as_slice());
+    assert_eq!(rt; host.bytes(ONCE), b"old".as_slice());
+    Ok(())
+}
+
+#[test]
+fn shows_no_journal(rt: HostRuntime) -> Result<(), Fail> {
+    let mut host = MemoryHost::new(rt.alloc());
+    let line = b"nbody: not started\n";
+    check_refused(&rt, rt.alloc(), &mut host, &["show"], 5, line)?;
+
+    let mut bytes = leg_bytes();
+    bytes[4097] = b'Q';
+    let mut host = host_of(rt.alloc(), &ONE_BODY)?;
+    host.with_file(JOURNAL, &bytes)?;
+    let line = b"nbody: damaged file 2 at 4096\n";
+    check_refused(&rt, rt.alloc(), &mut host, &["show"], 12, line)?;
+    assert_eq!(rt; host.bytes(JOURNAL), bytes.as_slice());
+    Ok(())
+}
+
+/// Each host call of `show` fails in turn. The fifth, the last one, says the text.
+#[test]
+fn a_fault_while_it_shows(rt: HostRuntime) -> Result<(), Fail> {
+    for call in 1..6 {
+        let mut host = journal_host(rt.alloc(), &[call])?;
+        assert_eq!(rt;
+            run_words(rt.alloc(), &["show"], &mut host),
+            11,
+            "call {call}"
+        );
+        assert_eq!(rt; (host.faults(), host.calls()), (1, call + 1), "call {call}");
+        assert_eq!(rt;
+            host.said(Channel::Err),
+            b"nbody: a device fault\n".as_slice()
+        );
+        let half: &[u8] = b"folder time 5 ticks 1 target 9 bodies 3 out 2\n\
+            grav = 1000000000\nthe";
+        let want = if call == 5 { half } else { b"" };
+        assert_eq!(rt; host.said(Channel::Out), want, "call {call}");
+    }
     Ok(())
 }

@@ -25,7 +25,7 @@ loop-bodies-preserved g c =
     let follows : MayFollow c.loop-bodies.reader body = rw c.in-Some.is at c.in_ok-body.ensures.follows in
     let behind : IsBehind body c.loop-bodies.reader c.next.new.self = rw c.in-Some.is at c.in_ok-body.ensures.moved in
     let more = HasGiven-more kept.given (λ e. not_ended c.in-Some.is (c.in_ok-body.ensures.end.1 e)) follows behind (λ told read.
-    let next = c.in_ok-body.ensures.body _ _ told read (IsFrontOf-same _ (sym (file-same (stays_contents kept.stays) (kept.given.file ∙ c.requires.file)))) in
+    let next = c.in_ok-body.ensures.body _ _ told read (record { reads = λ _. IsFrontOf-same _ (sym (file-same (stays_contents kept.stays) (kept.given.file ∙ c.requires.file))); images = λ _ _ _. tt }) in
     rw c.in-Some.is at next) in
     record {
       given = let P : List Body → Type 0 = λ bodies. HasGiven g.H.Host.meaning.tells ((g.H.Host.meaning.contents c.args.host.now).file init_file) c.args.reader c.next.new.self bodies in subst P (sym items) more;

@@ -24,7 +24,7 @@ loop-preserved g c =
       given = (
         _,
         HasGiven-more kept.given.1 (λ e. not_ended c.in-Some.is (c.in_ok-next.ensures.end.1 e)) follows behind (λ told read.
-            let next = c.in_ok-next.ensures.body _ _ told read (IsFrontOf-same _ (sym (file-same (stays_contents kept.stays) (kept.given.1.file ∙ c.requires.file)))) in
+            let next = c.in_ok-next.ensures.body _ _ told read (record { reads = λ _. IsFrontOf-same _ (sym (file-same (stays_contents kept.stays) (kept.given.1.file ∙ c.requires.file))); images = λ _ _ _. tt }) in
             rw c.in-Some.is at next),
       );
       stays = stays_both kept.stays c.next.ensures.ran.leads;

@@ -3,7 +3,7 @@ use Rattle.std.specs.Prelude.{replicate}
 use Rattle.nb_host.proofs.Callers.{stays_contents, stays_both}
 use Rattle.nb_model.specs.Leapfrog.{escaped_count, steps}
 use Rattle.nb_format.specs.Reader.{time_of}
-use Rattle.nb_cli.specs.Refusal.{NeedsNoCause, refusal_by_reader}
+use Rattle.nb_engine.specs.Refusal.{NeedsNoCause, of_snapshot}
 use Rattle.nb_cli.specs.Once.{Start, HasStart, list_at, IsReady, IsRefused}
 use Rattle.nb_cli.proofs.Starts.{refused_by_reader, header_read, refused_still, once_refusal-many, start_read, list_at-taken, becomes_from, written_list}
 use Rattle.nb_cli.proofs.Runs.{leads_none_written, leads_written}
@@ -16,8 +16,8 @@ returns-in_err-skim-clause-cause g c =
     let error = c.in_err-skim.field-0.0 in
     let files = (g.H.Host.meaning.contents c.args.host.now).file in
     let same = (stays_contents c.in_ok-reader.ensures.ran.leads) ∙ (stays_contents c.in_ok-params.ensures.ran.leads) in
-    let handed_on : c.from_residual-in_err-skim.result ≡ Err (refusal_by_reader error) = search rules in
-    let why : IsTrue g.H.Host.meaning.tells → NeedsNoCause (refusal_by_reader error) ⊎ IsRefused files c.args.target (refusal_by_reader error) = λ told.
+    let handed_on : c.from_residual-in_err-skim.result ≡ Err (of_snapshot error) = search rules in
+    let why : IsTrue g.H.Host.meaning.tells → NeedsNoCause (of_snapshot error) ⊎ IsRefused files c.args.target (of_snapshot error) = λ told.
     let read = header_read (stays_contents c.in_ok-reader.ensures.ran.leads) (c.in_ok-reader.ensures.header told) in
     refused_by_reader error (c.in_ok-params.ensures.spelled told) (λ by. refused_still same (c.in_err-skim.ensures.bad by told read)) in
     rw handed_on why
@@ -27,8 +27,8 @@ returns-in_err-bodies-clause-cause g c =
     let error = c.in_err-bodies.field-0.0 in
     let files = (g.H.Host.meaning.contents c.args.host.now).file in
     let same = (stays_contents c.in_ok-reader.ensures.ran.leads) ∙ (stays_contents c.in_ok-params.ensures.ran.leads) in
-    let handed_on : c.from_residual-in_err-bodies.result ≡ Err (refusal_by_reader error) = search rules in
-    let why : IsTrue g.H.Host.meaning.tells → NeedsNoCause (refusal_by_reader error) ⊎ IsRefused files c.args.target (refusal_by_reader error) = λ told.
+    let handed_on : c.from_residual-in_err-bodies.result ≡ Err (of_snapshot error) = search rules in
+    let why : IsTrue g.H.Host.meaning.tells → NeedsNoCause (of_snapshot error) ⊎ IsRefused files c.args.target (of_snapshot error) = λ told.
     let read = header_read (stays_contents c.in_ok-reader.ensures.ran.leads) (c.in_ok-reader.ensures.header told) in
     refused_by_reader error (c.in_ok-params.ensures.spelled told) (λ by. refused_still same (c.in_err-bodies.ensures.bad by told read)) in
     rw handed_on why

@@ -1,5 +1,5 @@
 use Rattle.std.proofs.Common.{◌≡◌, ◌⊎◌, inr, ℕ, List, map, Bor, IsTrue}
-use Rattle.nb_cli.specs.Refusal.{status_of}
+use Rattle.nb_cli.specs.Stop.{stop_status}
 use Rattle.nb_cli.specs.Answer.{Yields}
 use Rattle.nb_cli.proofs.Statuses.{IsRefusal, refusal_told, told_answer, finished_no_cause, finished_where, refused_where, refused_complete, cause_untouched, run_leads, leads_run, leads_told, not_done, status_in, words_where}
 use Rattle.nb_cli.proofs.program.nbody.Given.{Over}
@@ -18,16 +18,16 @@ returns-in-Ok-clause-leads g c = leads_run (run_leads c.run.ensures.run)
 
 -- Where the run is refused.
 
-refused : (g : Over) (c : goal.After-say_refusal g) → IsTrue g.H.Host.meaning.tells
-    → IsRefusal (map (λ (w : Bor (List ℕ)). w.now) c.args.words.now) (g.H.Host.meaning.contents c.args.host.now) c.in-Err.refusal c.say_refusal.result
-refused g c told = refusal_told (c.in-Err.ensures.cause told) c.say_refusal.ensures
+refused : (g : Over) (c : goal.After-say_why g) → IsTrue g.H.Host.meaning.tells
+    → IsRefusal (map (λ (w : Bor (List ℕ)). w.now) c.args.words.now) (g.H.Host.meaning.contents c.args.host.now) c.in-Err.why c.say_why.result
+refused g c told = refusal_told (c.in-Err.ensures.cause told) c.say_why.ensures
 
-answer : (g : Over) (c : goal.After-say_refusal g)
-    → (c.say_refusal.result ≡ status_of c.in-Err.refusal) ⊎ Yields c.say_refusal.result
-answer g c = told_answer c.say_refusal.ensures
+answer : (g : Over) (c : goal.After-say_why g)
+    → (c.say_why.result ≡ stop_status c.in-Err.why) ⊎ Yields c.say_why.result
+answer g c = told_answer c.say_why.ensures
 
 pub returns-in-Err-clause-status : goal.returns-in-Err-clause-status
-returns-in-Err-clause-status g c = status_in c.in-Err.refusal c.say_refusal.result (answer g c)
+returns-in-Err-clause-status g c = status_in c.in-Err.why c.say_why.result c.in-Err.ensures.sayable (answer g c)
 
 pub returns-in-Err-clause-words : goal.returns-in-Err-clause-words
 returns-in-Err-clause-words g c = words_where c.in-Err.ensures.words (answer g c)
@@ -36,14 +36,14 @@ pub returns-in-Err-clause-causes : goal.returns-in-Err-clause-causes
 returns-in-Err-clause-causes g c status told other steady = refused_where (refused g c told) steady
 
 pub returns-in-Err-clause-complete : goal.returns-in-Err-clause-complete
-returns-in-Err-clause-complete g c target start once told ready = inr (refused_complete (refused g c told) once ready)
+returns-in-Err-clause-complete g c job is told ready = inr (refused_complete job (refused g c told) is ready)
 
 pub returns-in-Err-clause-done : goal.returns-in-Err-clause-done
-returns-in-Err-clause-done g c done = absurd (not_done c.in-Err.refusal c.say_refusal.result (answer g c) done)
+returns-in-Err-clause-done g c done = absurd (not_done c.in-Err.why c.say_why.result (answer g c) done)
 
 pub returns-in-Err-clause-untouched : goal.returns-in-Err-clause-untouched
 returns-in-Err-clause-untouched g c why told holds =
-    cause_untouched ((leads_told (run_leads c.run.ensures.run) c.say_refusal.ensures).contents told) holds
+    cause_untouched ((leads_told (run_leads c.run.ensures.run) c.say_why.ensures).contents told) holds
 
 pub returns-in-Err-clause-leads : goal.returns-in-Err-clause-leads
-returns-in-Err-clause-leads g c = leads_told (run_leads c.run.ensures.run) c.say_refusal.ensures
+returns-in-Err-clause-leads g c = leads_told (run_leads c.run.ensures.run) c.say_why.ensures

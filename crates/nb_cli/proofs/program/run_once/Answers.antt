@@ -1,8 +1,8 @@
-use Rattle.std.proofs.Common.{rules, ◌≡◌, ◌≢◌, ◌⊎◌, inr, Ok, Err, ap, ◌∙◌, IsTrue, IsOk}
+use Rattle.std.proofs.Common.{rules, ◌≡◌, ◌⊎◌, inr, Ok, Err, ◌∙◌, IsTrue, IsOk}
 use Rattle.nb_host.proofs.Callers.{stays_contents, syncing_then}
-use Rattle.nb_cli.specs.declared.refusal.Refusal.TheVariants as refusal
-use Rattle.nb_cli.specs.Refusal.{refusal_by_host, NeedsNoCause}
-use Rattle.nb_cli.specs.Once.{IsRefused}
+use Rattle.nb_engine.specs.Refusal.{of_host, NeedsNoCause}
+use Rattle.nb_cli.specs.declared.words.Job.TheVariants as job
+use Rattle.nb_cli.specs.Answer.{IsJobRefused, once_syncs, syncs_of}
 use Rattle.nb_cli.proofs.Causes.{cause_still}
 use Rattle.nb_cli.proofs.Runs.{to_say, leads_synced, leads_file, leads_from, leads_line, counts_unsynced, counts_refused, counts_said, said_answer}
 use Rattle.nb_cli.proofs.program.run_once.Goals as goal
@@ -11,8 +11,8 @@ pub returns-in_err-done-clause-cause : goal.returns-in_err-done-clause-cause
 returns-in_err-done-clause-cause g c =
     let why = c.in_err-done.field-0.0 in
     let handed_on : c.from_residual-in_err-done.result ≡ Err why = search rules in
-    let cause : IsTrue g.H.Host.meaning.tells → NeedsNoCause why ⊎ IsRefused (g.H.Host.meaning.contents c.args.host.now).file c.args.target why = λ told.
-    cause_still (stays_contents c.sync.ensures.ran.leads) (c.in_err-done.ensures.cause told) in
+    let cause : IsTrue g.H.Host.meaning.tells → NeedsNoCause why ⊎ IsJobRefused (g.H.Host.meaning.contents c.args.host.now).file (job.Once c.args.target) why = λ told.
+    cause_still (job.Once c.args.target) (stays_contents c.sync.ensures.ran.leads) (c.in_err-done.ensures.cause told) in
     rw handed_on cause
 
 -- What it leaves at each moment.
@@ -58,17 +58,16 @@ returns-clause-run g c = inr (returns-clause-begun g c)
 
 pub returns-in_err-sync-clause-counts : goal.returns-in_err-sync-clause-counts
 returns-in_err-sync-clause-counts g c =
-    let handed_on : c.from_residual.result ≡ Err (refusal_by_host c.in_err-sync.field-0.0) = search rules in
-    rw handed_on (counts_unsynced c.sync.ensures.ran c.in_err-sync.was)
+    let handed_on : c.from_residual.result ≡ Err (of_host c.in_err-sync.field-0.0) = search rules in
+    rw handed_on (counts_unsynced once_syncs c.sync.ensures.ran c.in_err-sync.was)
 
 pub returns-in_err-done-clause-counts : goal.returns-in_err-done-clause-counts
 returns-in_err-done-clause-counts g c =
     let why = c.in_err-done.field-0.0 in
     let handed_on : c.from_residual-in_err-done.result ≡ Err why = search rules in
     let fine : IsOk c.sync.result = search rules in
-    let other : why ≢ refusal.Words = λ is. c.once.ensures.words (c.in_err-done.was ∙ ap Err is) in
     rw handed_on
-    (counts_refused fine c.sync.ensures.ran c.once.ensures.ran c.in_err-done.was other c.in_err-done.ensures.unsynced)
+    (counts_refused once_syncs fine c.sync.ensures.ran c.once.ensures.ran c.in_err-done.was c.in_err-done.ensures.unsynced)
 
 pub returns-in_err-say-clause-counts : goal.returns-in_err-say-clause-counts
 returns-in_err-say-clause-counts g c =
@@ -76,7 +75,7 @@ returns-in_err-say-clause-counts g c =
     let done : IsOk c.once.result = search rules in
     let handed_on : c.from_residual-in_err-say.result ≡ said_answer c.say.result = search rules in
     rw handed_on
-    (counts_said
+    (counts_said (syncs_of (job.Once c.args.target))
     (syncing_then fine c.sync.ensures.ran c.once.ensures.ran
     (leads_synced c.sync.ensures.ran.leads
     (leads_from (stays_contents c.sync.ensures.ran.leads) c.once.ensures.ran.leads)))
@@ -88,7 +87,7 @@ returns-clause-counts g c =
     let done : IsOk c.once.result = search rules in
     let handed_on : c.say.result ≡ Ok tt = search rules in
     rw handed_on at
-    (counts_said
+    (counts_said (syncs_of (job.Once c.args.target))
     (syncing_then fine c.sync.ensures.ran c.once.ensures.ran
     (leads_synced c.sync.ensures.ran.leads
     (leads_from (stays_contents c.sync.ensures.ran.leads) c.once.ensures.ran.leads)))
