@@ -1,25 +1,9 @@
 """Tests of tools/bodies: `python3 tools/test_bodies.py`. Bytes are written by hand, from docs/FORMATS.md."""
 
-import contextlib
-import importlib.machinery
-import importlib.util
-import io
 import os
-import sys
-import tempfile
 import unittest
 
-
-def module_of(path):
-    """The script as a module, which leaves no compiled file beside it."""
-    sys.dont_write_bytecode = True
-    loader = importlib.machinery.SourceFileLoader("bodies", path)
-    module = importlib.util.module_from_spec(importlib.util.spec_from_loader("bodies", loader))
-    loader.exec_module(module)
-    return module
-
-
-BODIES = module_of(os.path.join(os.path.dirname(os.path.abspath(__file__)), "bodies"))
+from tool_test import ToolTest, bytes_of, tool
 
 # The snapshot of docs/FORMATS.md: one body, id 7, mass 3, at (5, 5, 5), velocity (1, 0, 0), at time 0.
 ONE = """
@@ -52,33 +36,8 @@ edge = open
 """
 
 
-def bytes_of(text):
-    return bytes.fromhex("".join(text.split()))
-
-
-class Bodies(unittest.TestCase):
-    def setUp(self):
-        room = tempfile.TemporaryDirectory()
-        self.addCleanup(room.cleanup)
-        self.room = room.name
-
-    def path(self, name):
-        return os.path.join(self.room, name)
-
-    def write(self, name, data):
-        with open(self.path(name), "wb") as file:
-            file.write(data)
-
-    def read(self, name):
-        with open(self.path(name), "rb") as file:
-            return file.read()
-
-    def run_tool(self, *words):
-        """The status, and what was printed on standard output and standard error."""
-        out, err = io.StringIO(), io.StringIO()
-        with contextlib.redirect_stdout(out), contextlib.redirect_stderr(err):
-            status = BODIES.main(words)
-        return status, out.getvalue(), err.getvalue()
+class Bodies(ToolTest):
+    tool = tool("bodies")
 
     def from_csv(self, text, *options):
         self.write("bodies.csv", text.encode())
@@ -96,7 +55,7 @@ class Bodies(unittest.TestCase):
         self.assertEqual(sorted(os.listdir(self.path("run"))), ["init.nbs", "params"])
 
     def test_there_and_back(self):
-        self.assertEqual(self.from_csv(TWO_ROWS, "--grav", "1", "--time", "258")[0], 0)
+        self.assertEqual(self.from_csv(TWO_ROWS, "--grav", "1", "--at", "258")[0], 0)
         self.assertEqual(self.read("run/init.nbs"), bytes_of(TWO))
         printed = (0, TWO_ROWS, "2 bodies at time 258\n")
         self.assertEqual(self.run_tool("to", self.path("run/init.nbs")), printed)
@@ -105,7 +64,7 @@ class Bodies(unittest.TestCase):
         """Columns and rows may be turned round, and blanks and empty lines may stand between."""
         text = "\ufeff z,vx,vy,vz,x,y,out,mass,id\r\n\r\n0,0,-9223372036854775808,0,1,256,1,1,2\r\n"
         text += " 0 , -2,0,2305843009213693951,1099511627775,0,0,4294967295,01\r\n"
-        self.assertEqual(self.from_csv(text, "--grav", "1", "--time", "258")[0], 0)
+        self.assertEqual(self.from_csv(text, "--grav", "1", "--at", "258")[0], 0)
         self.assertEqual(self.read("run/init.nbs"), bytes_of(TWO))
 
     def test_numbered_without_ids(self):
@@ -122,7 +81,9 @@ class Bodies(unittest.TestCase):
         row = "mass,x,y,z,vx,vy,vz\n1,0,0,0,0,0,0\n"
         options = "--grav 1152921504606846975 --theta 3/4 --soft 65536 --leaf 32 --every 10 --edge wrap"
         self.assertEqual(self.from_csv(row, *options.split())[0], 0)
-        text = "grav = 1152921504606846975\ntheta_num = 3\ntheta_den = 4\nsoft = 65536\nleaf = 32\nevery = 10\n"
+        text = (
+            "grav = 1152921504606846975\ntheta_num = 3\ntheta_den = 4\nsoft = 65536\nleaf = 32\nevery = 10\n"
+        )
         self.assertEqual(self.read("run/params").decode(), text + "edge = wrap\n")
 
     def test_parameters_that_are_there_stay(self):
