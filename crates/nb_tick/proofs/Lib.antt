@@ -1,3 +1,4 @@
+pub mod Callers
 mod Calls
 mod Refusing
 mod Lists
@@ -5,6 +6,7 @@ mod Written
 mod Drifts
 mod Kicks
 mod Ticks
+mod AnyKicks
 mod Trees
 mod TreeDrifts
 mod Phases

@@ -20,7 +20,8 @@ use Rattle.nb_tick.specs.declared.slot.Slot.{Slot}
 use Rattle.nb_tick.specs.Slots.{slot_file, other_slot, drifted_file, sorted_file, cell_file, tick_files}
 use Rattle.nb_tick.specs.State.{HoldsState, HoldsKickedState}
 use Rattle.nb_tick.specs.Steps.{HoldsList, in_morton_order, kicked_one, IsDrifted, CantDrift, CantKick, HasTreeOf, CantSort}
-use Rattle.nb_tick.specs.Tick.{IsState, IsStepped, IsNoState}
+use Rattle.nb_tick.specs.Tick.{IsState, IsStepped, LeavesState, IsNoState}
+use Rattle.nb_tick.proofs.AnyKicks.{leaves}
 use Rattle.nb_tick.proofs.Ticking.{slot_seen, slot_small, moved, moved_list, moved_long, stepped, page_drift, page_sort, page_kick}
 
 -- the bodies of a slot are drifted
@@ -93,3 +94,25 @@ module _ {H : Type 0} (m : HostModel H) (params : Params) (way : Way) (known : B
           (subst (λ (n : ℕ). HoldsList ((m.contents h4).file n) after) to_is (subst (λ (l : List ℕ). HoldsList l after) (sym (written tells to)) there.0))
           (subst (λ (n : ℕ). IsZeroPaddedFile BODY_SIZE ((m.contents h4).file n)) to_is (subst (IsZeroPaddedFile BODY_SIZE) (sym (written tells to)) there.1))
           (written tells cell_file ∙ writes.view tells cell_file (other_file apart)) escaped_is
+
+      -- the same, whatever the kicks of the slot were
+      pub any_tick : (c3 : CacheValue) (h3 h4 : H) (escaped : ℕ) → escaped ≡ count - tree.count
+          → (IsTrue m.tells → (bodies : List Body) → IsTreeOf tree (seen m c2 h2) params bodies → length bodies ≡ count
+          → HoldsList (seen m c3 h3 to) (map (kicked_one way) (in_morton_order params bodies)) × IsZeroPaddedFile BODY_SIZE (seen m c3 h3 to))
+          → (IsTrue m.tells → (file : ℕ) → (m.contents h4).file file ≡ seen m c3 h3 file)
+          → IsTrue m.tells → (bodies : List Body) → IsValidBodies params bodies → length bodies ≡ count
+          → HoldsState bodies ((m.contents h0).file (slot_file from))
+          → LeavesState params from bodies (m.contents h4) escaped
+      any_tick c3 h3 h4 escaped escaped_is kicked written tells bodies valid long holds =
+          let slot_bytes = seen m c0 h0 slot in
+          let drifted = seen m c1 h1 drifted_file in
+          let are = drifts tells bodies valid long (state_seen tells bodies holds) in
+          let list = moved_list params way known count bodies valid long slot_bytes drifted are in
+          let many = moved_long params way known count bodies valid long slot_bytes drifted are in
+          let all = moved params way known count bodies valid long slot_bytes drifted are in
+          let of_tree = (has tells all are.holds.bodies many list.different).0 in
+          let there = kicked tells all of_tree many in
+          let after = map (kicked_one way) (in_morton_order params all) in
+          leaves params way bodies are.list valid are.bodies_are are.range from (m.contents h4) count escaped long
+          (escaped_is ∙ ap (λ (n : ℕ). count - n) of_tree.count)
+          (subst (λ (n : ℕ). HoldsList ((m.contents h4).file n) after) to_is (subst (λ (l : List ℕ). HoldsList l after) (sym (written tells to)) there.0))

@@ -30,7 +30,7 @@ use Rattle.nb_tick.proofs.Drifts.{bodies_of-map, drifted_ids, drifted_masses, al
 
 -- ---- lists with the ids of another
 
-ids_differ : (xs ys : List Body) → map (λ b. b.id) ys ≡ map (λ b. b.id) xs → HaveDifferentIds xs → HaveDifferentIds ys
+pub ids_differ : (xs ys : List Body) → map (λ b. b.id) ys ≡ map (λ b. b.id) xs → HaveDifferentIds xs → HaveDifferentIds ys
 ids_differ xs ys same different i j d before within =
     let id = λ (b : Body). b.id in
     let long : length ys ≡ length xs = sym (length-map ys id) ∙ ap length same ∙ length-map xs id in
@@ -38,7 +38,7 @@ ids_differ xs ys same different i j d before within =
     λ k below. sym (get_or-map id ys k d 0 below) ∙ ap (λ l. get_or l k 0) same ∙ get_or-map id xs k d 0 (omega (arith, long)) in
     λ equal. different i j d before (omega (arith, long)) (sym (at i (omega arith)) ∙ equal ∙ at j within)
 
-in_and_out : (bodies : List Body) → length (in_box bodies) + escaped_count bodies ≡ length bodies
+pub in_and_out : (bodies : List Body) → length (in_box bodies) + escaped_count bodies ≡ length bodies
 in_and_out [] = refl
 in_and_out (b ∷ bs) = omega (arith, sum_by-cons (λ (c : Body). cond c.out 1 0) b bs, in_and_out bs, one b.out) where
   one : (t : Bool) → length (cond (not t) (b ∷ in_box bs) (in_box bs)) + cond t 1 0 ≡ length (in_box bs) + 1
@@ -71,7 +71,10 @@ drifted_list params way bodies list valid is small =
           (subst (All IsValidBody) (sym is) (All-permutation IsValidBody bodies (sorted_by by_key bodies) order valid.each)) small;
     }
 
--- ---- the list one step on
+pub drifted_box : (drifted : List Body) → All IsDriftedBody drifted → All (λ b. IsInBox b.at) drifted
+drifted_box drifted each = All-weaker IsDriftedBody (λ (b : Body). IsInBox b.at) (λ b one. one.at) drifted each
+
+-- ---- the drifted bodies after their second half kick, in any order
 
 at_each : (P : KickedBody → Type 0) (list : List KickedBody) (j : ℕ) (k : KickedBody) → All P list → slice_get list j ≡ Some k → P k
 at_each P list j k all is =
@@ -84,21 +87,9 @@ body_of_list [] j b is = absurd (cc)
 body_of_list (k ∷ ks) zero b is = (k, refl, same_Some k.body b is)
 body_of_list (k ∷ ks) (suc j) b is = body_of_list ks j b is
 
-module _ (params : Params) (way : Way) (bodies drifted : List Body) (valid : IsValidBodies params bodies) (moved : IsDriftedList params bodies drifted) (is : IsPermutation (drift params way (kick params way bodies)) drifted) where
-  abbrev before : List Body
-  before = drift params way (kick params way bodies)
-
-  abbrev after : List Body
-  after = step params way bodies
-
+module _ (params : Params) (way : Way) (drifted after : List Body) (box : All (λ b. IsInBox b.at) drifted) (different : HaveDifferentIds drifted) (is : IsPermutation (kick params way drifted) after) where
   abbrev kicked : List KickedBody
   kicked = map (kicked_one way) (in_morton_order params drifted)
-
-  box : All (λ b. IsInBox b.at) drifted
-  box = All-weaker IsDriftedBody (λ (b : Body). IsInBox b.at) (λ b one. one.at) drifted moved.each
-
-  back : IsPermutation drifted before
-  back = IsPermutation-sym before drifted is
 
   kicked_order : bodies_of kicked ≡ sorted_by by_key after
   kicked_order =
@@ -110,20 +101,22 @@ module _ (params : Params) (way : Way) (bodies drifted : List Body) (valid : IsV
       (λ b. ap (λ (k : V3). accelerate way k b) (same_half_kick params drifted sorted_drifted b box order)) sorted_drifted
       ∙ kick_sorted params way drifted box
       ∙ same_order by_key (kick params way drifted) after
-      (ids_differ drifted (kick params way drifted) (ids-kick params way drifted) moved.different)
-      (same_kick params way drifted before box back)
+      (ids_differ drifted (kick params way drifted) (ids-kick params way drifted) different) is
 
-  -- each kick is the half kick of its body in the list one step on
+  -- each kick is the half kick of its body in the list that is left
   own_kicks : All (λ k. k.kick ≡ half_kick params after k.body) kicked
   own_kicks =
       All-map (λ (k : KickedBody). k.kick ≡ half_kick params after k.body) (kicked_one way) (in_morton_order params drifted)
       (All-map (λ (k : KickedBody). k.kick ≡ half_kick params after (kicked_one way k).body) (half_kicked params drifted) (sorted_by by_key drifted)
       (λ j d below. own (get_or (sorted_by by_key drifted) j d))) where
         own : (b : Body) → half_kick params drifted b ≡ half_kick params after (accelerate way (half_kick params drifted b) b)
-        own b = same_half_kick params drifted before b box back ∙ sym (half_kick-accelerated way (half_kick params before) params before b)
+        own b =
+            sym (half_kick-accelerated way (half_kick params drifted) params drifted b)
+            ∙ same_half_kick params (kick params way drifted) after b
+            (All-map (λ (c : Body). IsInBox c.at) (λ c. accelerate way (half_kick params drifted c) c) drifted box) is
 
-  pub stepped_slot : (file : List ℕ) → HoldsList file kicked → HoldsKickedState params after file
-  stepped_slot file holds = record {
+  pub kicked_slot : (file : List ℕ) → HoldsList file kicked → HoldsKickedState params after file
+  kicked_slot file holds = record {
     bodies = subst (HoldsBodies file) kicked_order holds.bodies;
     kicks = λ j b at.
         let found = body_of_list kicked j b (subst (λ (l : List Body). slice_get l j ≡ Some b) (sym kicked_order) at) in
@@ -131,6 +124,23 @@ module _ (params : Params) (way : Way) (bodies drifted : List Body) (valid : IsV
         ∙ at_each (λ (k : KickedBody). k.kick ≡ half_kick params after k.body) kicked j found.0 own_kicks found.1
         ∙ ap (half_kick params after) found.2;
   }
+
+-- ---- the list one step on
+
+module _ (params : Params) (way : Way) (bodies drifted : List Body) (valid : IsValidBodies params bodies) (moved : IsDriftedList params bodies drifted) (is : IsPermutation (drift params way (kick params way bodies)) drifted) where
+  abbrev before : List Body
+  before = drift params way (kick params way bodies)
+
+  abbrev after : List Body
+  after = step params way bodies
+
+  back : IsPermutation drifted before
+  back = IsPermutation-sym before drifted is
+
+  pub stepped_slot : (file : List ℕ) → HoldsList file (map (kicked_one way) (in_morton_order params drifted)) → HoldsKickedState params after file
+  stepped_slot file holds =
+      let box = drifted_box drifted moved.each in
+      kicked_slot params way drifted after box moved.different (same_kick params way drifted before box back) file holds
 
   same_length : length after ≡ length drifted
   same_length = length-kick params way before ∙ sym (length_permutation before drifted is)

@@ -1,5 +1,5 @@
 -- What a tick leaves, and why it answers Damaged.
-use Rattle.std.specs.Prelude.{◌≡◌, ℕ, Bool, true, IsTrue, List, ◌∷◌, length, Contains}
+use Rattle.std.specs.Prelude.{◌≡◌, ℕ, ◌≤◌, Bool, true, IsTrue, List, ◌∷◌, length, Contains}
 use Rattle.nb_host.specs.Image.{Image}
 use Rattle.nb_host.specs.Meaning.{HostModel}
 use Rattle.nb_host.specs.declared.page_name.PageName.{PageName}
@@ -29,6 +29,16 @@ pub record IsStepped (params : Params) (way : Way) (from : Slot) (bodies : List 
   pub cells : IsCellIndexOf params (step params way bodies) (image.file cell_file)
   pub cells_padded : IsZeroPaddedFile CELL_SIZE (image.file cell_file)
   pub escaped_is : escaped ≡ escaped_count (step params way bodies)
+
+-- Whatever the kicks of the slot were: after a tick the other slot holds valid bodies in Morton order, as many, with the half
+-- kicks of that list, no body of it came back into the box, and the answer is how many are out.
+pub record LeavesState (params : Params) (from : Slot) (bodies : List Body) (image : Image) (escaped : ℕ) : Type 0 where
+  pub next : List Body
+  pub valid : IsValidBodies params next
+  pub count_is : length next ≡ length bodies
+  pub slot : HoldsKickedState params next (image.file (slot_file (other_slot from)))
+  pub escaped_is : escaped ≡ escaped_count next
+  pub no_fewer : escaped_count bodies ≤ escaped
 
 -- The tick can't be done: the page is one of the slot, or of a file that the tick writes. Over a host that tells its contents
 -- the slot doesn't hold so many valid bodies in Morton order, whatever their kicks.

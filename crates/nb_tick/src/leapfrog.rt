@@ -1,17 +1,18 @@
 //! One tick: kick, drift, kick.
 
-ghost use Rattle.std.specs.Prelude.{◌≡◌, ◌≤◌, IsTrue, List, [], ◌∷◌, IfOk, OnOk, Err, Contains, ℕ};
+ghost use Rattle.std.specs.Prelude.{◌≡◌, ◌≤◌, IsTrue, List, [], ◌∷◌, length, IfOk, OnOk, Err, Contains, ℕ};
 ghost use Rattle.nb_host.specs.declared.page_name.PageName.{PageName as PageNames};
 ghost use Rattle.nb_model.specs.declared.body.Body.{Body as Bodies};
 ghost use Rattle.nb_model.specs.Limits.{most_bodies};
-ghost use Rattle.nb_model.specs.Valid.{AreInRange};
+ghost use Rattle.nb_model.specs.Valid.{AreInRange, IsValidBodies};
 ghost use Rattle.nb_cache.specs.InStep.{IsInStep};
 ghost use Rattle.nb_cache.specs.Writes.{RanCached};
 ghost use Rattle.nb_cache.specs.View.{seen};
 ghost use Rattle.nb_tree.specs.Builds.{IsInRange};
 ghost use Rattle.nb_tick.specs.Slots.{slot_file, drifted_file, sorted_file, cell_file, tick_files};
+ghost use Rattle.nb_tick.specs.State.{HoldsState};
 ghost use Rattle.nb_tick.specs.Steps.{HasTreeOf, CantSort};
-ghost use Rattle.nb_tick.specs.Tick.{IsState, IsStepped, IsNoState};
+ghost use Rattle.nb_tick.specs.Tick.{IsState, IsStepped, LeavesState, IsNoState};
 
 use crate::drifting::drift_all;
 use crate::kicking::kick_all;
@@ -29,9 +30,10 @@ use nb_walk::Pool;
 /// the other slot holds the list one step on, in Morton order, each body with its half kick there, and the file
 /// of cells holds the tree's. All of it is flushed to the host, and nothing is synced. The answer is how many
 /// bodies are out. Where the slot's kicks are `known` they are taken from its records, and one tree is built;
-/// else two are, and the slot's kicks aren't looked at. It takes no allocator, so no list of bodies is in
-/// memory. The files of the drifted and of the sorted bodies may hold anything afterwards, and after a refusal
-/// the other slot and the file of cells may too; the slot is as it was.
+/// else two are, and the slot's kicks aren't looked at. Whatever they were, the other slot then holds a valid
+/// list, with its own half kicks. It takes no allocator, so no list of bodies is in memory. The files of the
+/// drifted and of the sorted bodies may hold anything afterwards, and after a refusal the other slot and the
+/// file of cells may too; the slot is as it was.
 pub fn tick<H: Host>(
     host: &mut H,
     cache: &mut Cache,
@@ -51,6 +53,10 @@ pub fn tick<H: Host>(
     ensures stepped { IfOk result (λ escaped. IsTrue H.meaning.tells → (bodies : List Bodies)
         → IsState params.now known count bodies ((H.meaning.contents host.old).file (slot_file from))
         → IsStepped params.now way from bodies (H.meaning.contents host.new) escaped) }
+    ensures valid { IfOk result (λ escaped. IsTrue H.meaning.tells → (bodies : List Bodies)
+        → IsValidBodies params.now bodies → length bodies ≡ count
+        → HoldsState bodies ((H.meaning.contents host.old).file (slot_file from))
+        → LeavesState params.now from bodies (H.meaning.contents host.new) escaped) }
     ensures most { IfOk result (λ escaped. escaped ≤ count) }
     ensures flushed { OnOk result (cache.new.unwritten ≡ []) }
     ensures room { pool.new.room ≡ pool.old.room }

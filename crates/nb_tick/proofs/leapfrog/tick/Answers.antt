@@ -3,7 +3,7 @@ use Rattle.nb_tick.specs.declared.tick_error.TickError.TheVariants.{Damaged}
 use Rattle.nb_tick.specs.Errors.{of_cache}
 use Rattle.nb_tick.specs.Slots.{slot_file, other_slot, tick_files}
 use Rattle.nb_tick.proofs.Calls.{among_none, went_none, went_on, went_to, went_well}
-use Rattle.nb_tick.proofs.OneTick.{no_drift, no_sort, no_kick, one_tick}
+use Rattle.nb_tick.proofs.OneTick.{no_drift, no_sort, no_kick, one_tick, any_tick}
 use Rattle.nb_tick.proofs.Refusing.{cache_fault}
 use Rattle.nb_tick.proofs.Ticking.{among_drift, among_sort, among_slot}
 use Rattle.nb_tick.proofs.leapfrog.tick.Goals as goal
@@ -66,6 +66,14 @@ returns-clause-stepped g c =
     c.requires.unwritten c.requires.in_step c.drift_all.new.cache c.drift_all.new.host c.in_ok-drift_all.ensures.drifted
     c.sort_drifted.new.cache c.sort_drifted.new.host c.in_ok-tree.tree c.in_ok-tree.ensures.tree c.in_ok-tree.ensures.range c.file-2.result to_is
     c.kick_all.new.cache c.kick_all.new.host c.flush.new.host (c.args.count - c.in_ok-tree.tree.count) refl c.in_ok-kick_all.ensures.kicked c.kick_all.ensures.ran.writes c.in_ok-flush.ensures.written
+
+pub returns-clause-valid : goal.returns-clause-valid
+returns-clause-valid g c =
+    let to_is : c.file-2.result ≡ slot_file (other_slot c.args.from) = c.file-2.ensures ∙ ap slot_file c.other.ensures in
+    any_tick g.H.Host.meaning c.args.params.now c.args.way c.args.known c.args.from c.file.result c.args.count c.file.ensures c.args.cache.now c.args.host.now
+    c.requires.unwritten c.requires.in_step c.drift_all.new.cache c.drift_all.new.host c.in_ok-drift_all.ensures.drifted
+    c.sort_drifted.new.cache c.sort_drifted.new.host c.in_ok-tree.tree c.in_ok-tree.ensures.tree c.in_ok-tree.ensures.range c.file-2.result to_is
+    c.kick_all.new.cache c.kick_all.new.host c.flush.new.host (c.args.count - c.in_ok-tree.tree.count) refl c.in_ok-kick_all.ensures.kicked c.in_ok-flush.ensures.written
 
 pub returns-clause-ran : goal.returns-clause-ran
 returns-clause-ran g c =
