@@ -9,7 +9,7 @@ use Rattle.nb_record.proofs.Callers.{permuted, sorted, only, different_ids, own_
 use Rattle.nb_engine.specs.Histories.{Run, state_of, IsRun}
 use Rattle.nb_engine.proofs.Steps.{steps_valid}
 -- a run, tick by tick
-pub use Rattle.nb_engine.proofs.Steps.{steps_append, steps_valid, escaped_count-step, escaped_count-steps, escaped_count-fewer}
+pub use Rattle.nb_engine.proofs.Steps.{steps_append, steps_valid, escaped_count-step, escaped_count-steps, escaped_count-fewer, length-steps}
 pub use Rattle.nb_engine.proofs.Straight.{same_state}
 -- what a journal tells of its run
 pub use Rattle.nb_engine.proofs.Paths.{IsTold, told, ticks-within, time-now, state-forward, state-back}
@@ -17,6 +17,17 @@ pub use Rattle.nb_engine.proofs.LongerLogs.{run-ticked, ticks-ticked, history-ti
 -- what a folder represents
 pub use Rattle.nb_engine.proofs.Representing.{spared, represents_kept, represents_ticked, represents_legged}
 pub use Rattle.nb_engine.proofs.SameSnapshots.{finished_bytes}
+-- what is said beside the lines of ticks
+pub use Rattle.nb_engine.proofs.Played.{history-played}
+-- images of calls that begin where what reads is durable
+pub use Rattle.nb_engine.proofs.EachImages.{leads_from_durable, durable_said}
+-- what acknowledges no tick
+pub use Rattle.nb_engine.proofs.OtherLines.{told_other}
+pub use Rattle.nb_engine.proofs.OtherTexts.{append_is_other, once_is_other, started_is_other, done_is_other, folder_is_other, params_are_other}
+-- a run that was started
+pub use Rattle.nb_engine.proofs.Started.{started_history}
+-- what a reader of a snapshot has given so far
+pub use Rattle.nb_engine.proofs.Reading.{HasGiven, HasGiven-none, HasGiven-more, IsFrontOf-same, file-same, IsBad, not_ended}
 
 -- A list whose ids rise, put into Morton order and back.
 pub sorted_back : (bodies : List Body) → IsStrictlyIncreasing (map (λ b. b.id) bodies)

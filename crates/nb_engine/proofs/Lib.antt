@@ -1,4 +1,11 @@
 pub mod Callers
+mod Frames
+mod EachImages
+mod Openings
+mod GoingOn
+mod Led
+mod Departures
+mod Resuming
 mod Steps
 mod Straight
 mod Heights
@@ -9,3 +16,20 @@ mod LongerLogs
 mod Representing
 mod TickLines
 mod Told
+mod OtherLines
+mod OtherTexts
+mod Played
+mod DueNow
+mod Running
+mod Filling
+mod TickImages
+mod Stepping
+mod SnapshotSteps
+mod Finishing
+mod Reading
+mod Surveys
+mod Beginnings
+mod CachedCalls
+mod SecondReadings
+mod Started
+mod Starting

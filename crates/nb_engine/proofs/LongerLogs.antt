@@ -30,7 +30,7 @@ gone_in (Tick number gone) = gone
 
 -- ---- a tick more
 
-legs_in-tick : (entries : List Entry) (number gone : ℕ) → legs_in (entries ++ Tick number gone ∷ []) ≡ legs_in entries
+pub legs_in-tick : (entries : List Entry) (number gone : ℕ) → legs_in (entries ++ Tick number gone ∷ []) ≡ legs_in entries
 legs_in-tick [] number gone = refl
 legs_in-tick (Leg target ∷ entries) number gone = ap (λ legs. target ∷ legs) (legs_in-tick entries number gone)
 legs_in-tick (Tick other out ∷ entries) number gone = legs_in-tick entries number gone
@@ -91,7 +91,7 @@ pub leads-away : (target : ℕ) (h : History) → IsNextLeg (progress_of h.log) 
 leads-away target h next same = next.apart (same ∙ sym (target-end (begun h.log) h.log.entries) ∙ sym next.ended)
 
 -- A run whose last leg has ended has no ticks but those that are done.
-ticks-ended : (h : History) → IsLawful h.log → (progress_of h.log).time ≡ (progress_of h.log).target
+pub ticks-ended : (h : History) → IsLawful h.log → (progress_of h.log).time ≡ (progress_of h.log).target
     → length_of (run_of h) ≡ ticks_of h
 ticks-ended h lawful ended =
     let is = told h lawful in

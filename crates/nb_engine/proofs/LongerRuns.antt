@@ -20,7 +20,7 @@ end_of begin (target ∷ legs) = end_of target legs
 abbrev pub longer : ℕ → Run → Run
 longer target run = record run { legs = run.legs ++ target ∷ [] }
 
-length-directions_to : (from to : ℕ) → length (directions_to from to) ≡ abs_diff from to
+pub length-directions_to : (from to : ℕ) → length (directions_to from to) ≡ abs_diff from to
 length-directions_to from to =
     omega (
       arith,

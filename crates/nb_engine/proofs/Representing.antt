@@ -13,7 +13,9 @@ use Rattle.nb_journal.specs.Offsets.{journal_file}
 use Rattle.nb_record.specs.Order.{by_key, sorted_by, HoldsBodies, HoldsKickedBodies}
 use Rattle.nb_engine.specs.Acknowledged.{IsToldUpTo}
 use Rattle.nb_engine.specs.Histories.{Run, state_of, time_of, length_of, History, run_of, ticks_of, IsHistory, ticked, legged}
-use Rattle.nb_engine.specs.Represents.{init_file, slot_of, snap_of, IsOpened, IsSnapshotOf, Represents, RepresentsHistory}
+use Rattle.nb_tick.specs.Slots.{slot_of}
+use Rattle.nb_engine.specs.Files.{init_file}
+use Rattle.nb_engine.specs.Represents.{snap_of, IsOpened, IsSnapshotOf, Represents, RepresentsHistory}
 use Rattle.nb_engine.specs.Gates.{CanTick}
 use Rattle.nb_engine.proofs.LongerLogs.{run-ticked, ticks-ticked, history-ticked, run-legged, ticks-legged, leads-away, history-legged}
 use Rattle.nb_engine.proofs.LongerRuns.{end_of, longer, state-longer, time-longer, due-longer, due-shorter}

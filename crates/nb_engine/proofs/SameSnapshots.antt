@@ -5,7 +5,8 @@ use Rattle.nb_model.specs.Laws.{StepIsUndone}
 use Rattle.nb_model.specs.Leapfrog.{escaped_count}
 use Rattle.nb_format.specs.Snapshot.{snapshot_bytes, IsFinishedSnapshot}
 use Rattle.nb_engine.specs.Histories.{state_of, time_of, History, run_of, ticks_of, IsHistory}
-use Rattle.nb_engine.specs.Represents.{snap_of, init_file, IsOpened, Represents}
+use Rattle.nb_engine.specs.Files.{init_file}
+use Rattle.nb_engine.specs.Represents.{snap_of, IsOpened, Represents}
 use Rattle.nb_engine.proofs.Straight.{same_state}
 
 opened_if_finished : (count : ℕ) (file : List ℕ) → IsFinishedSnapshot count file → IsOpened file

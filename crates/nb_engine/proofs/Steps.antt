@@ -1,12 +1,12 @@
 -- Ticks one after the other: each list of a run is valid, and no body comes back into the box.
-use Rattle.std.proofs.Common.{◌≡◌, ℕ, zero, suc, ◌≤◌, cond, List, [], ◌∷◌, ◌++◌, take, refl, arith}
+use Rattle.std.proofs.Common.{◌≡◌, ℕ, zero, suc, ◌≤◌, cond, List, [], ◌∷◌, ◌++◌, length, take, refl, ◌∙◌, arith}
 use Rattle.std.proofs.lemmas.List.Sums.{sum_by-cons}
 use Rattle.nb_model.specs.declared.body.Body.{Body}
 use Rattle.nb_model.specs.declared.params.Params.{Params}
 use Rattle.nb_model.specs.declared.way.Way.{Way}
 use Rattle.nb_model.specs.Leapfrog.{escaped_count, kick, drift_body, drift, step, steps}
 use Rattle.nb_model.specs.Valid.{IsValidBodies}
-use Rattle.nb_model.proofs.Facts.{drift_body_cases, escaped_count-kick, step_valid}
+use Rattle.nb_model.proofs.Facts.{drift_body_cases, escaped_count-kick, step_valid, length-kick, length-drift}
 
 pub steps_append : (params : Params) (ways more : List Way) (bodies : List Body)
     → steps params (ways ++ more) bodies ≡ steps params more (steps params ways bodies)
@@ -61,3 +61,14 @@ escaped_count-fewer params ways (suc i) zero bodies less = absurd (omega arith)
 escaped_count-fewer params [] (suc i) (suc k) bodies less = omega arith
 escaped_count-fewer params (way ∷ ways) (suc i) (suc k) bodies less =
     escaped_count-fewer params ways i k (step params way bodies) (omega arith)
+
+-- ---- no body comes or goes
+
+length-step : (params : Params) (way : Way) (bodies : List Body) → length (step params way bodies) ≡ length bodies
+length-step params way bodies =
+    let kicked = kick params way bodies in
+    length-kick params way (drift params way kicked) ∙ length-drift params way kicked ∙ length-kick params way bodies
+
+pub length-steps : (params : Params) (ways : List Way) (bodies : List Body) → length (steps params ways bodies) ≡ length bodies
+length-steps params [] bodies = refl
+length-steps params (way ∷ ways) bodies = length-steps params ways (step params way bodies) ∙ length-step params way bodies

@@ -126,7 +126,7 @@ split_either (x ∷ a) b (y ∷ c) d same =
 -- ---- a line of a tick in the first bytes of another
 
 -- the bytes that begin with the first bytes of a line
-whole_line : (n : ℕ) (line front rest : List ℕ) → take n line ≡ front ++ rest → line ≡ front ++ (rest ++ drop n line)
+pub whole_line : (n : ℕ) (line front rest : List ℕ) → take n line ≡ front ++ rest → line ≡ front ++ (rest ++ drop n line)
 whole_line n line front rest first =
     sym (take-append-drop n line) ∙ ap (λ l. l ++ drop n line) first ∙ append_assoc front rest (drop n line)
 

@@ -38,7 +38,7 @@ pub told_more : (i k : ℕ) (said : List ℕ) → i ≤ k → IsToldUpTo i said 
 told_more i k said less up j told = omega (arith, less, up j told)
 
 -- the last byte of a text that ends a line, of which the last bytes aren't none
-last_feed : (said part before : List ℕ) → EndsLine before → before ≡ said ++ part → 1 ≤ length part
+pub last_feed : (said part before : List ℕ) → EndsLine before → before ≡ said ++ part → 1 ≤ length part
     → get_or part (length part - 1) 0 ≡ 10
 last_feed said part before (inl none) is some =
     absurd (omega (arith, ap length none, ap length is, length-append said part))
@@ -69,7 +69,7 @@ begins_before n line other (x ∷ front) (y ∷ part) behind is other_is cut fir
     absurd (none_cut n line (x ∷ front) (y ∷ part) other behind is other_is cut first (omega arith) (omega arith))
 
 -- a line that ends within what was said before
-told_earlier : (said more : List ℕ) (j : ℕ) (told : Acknowledges (said ++ more) j) (part rest : List ℕ) → said
+pub told_earlier : (said more : List ℕ) (j : ℕ) (told : Acknowledges (said ++ more) j) (part rest : List ℕ) → said
     ≡ told.before ++ part
     → part ≡ tick_line j told.time told.gone ++ rest → Acknowledges said j
 told_earlier said more j told part rest at holds = record {

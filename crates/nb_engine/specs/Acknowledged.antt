@@ -1,5 +1,5 @@
 -- Which ticks a run has told of as done.
-use Rattle.std.specs.Prelude.{◌≡◌, ℕ, ◌^◌, ◌<◌, ◌≤◌, ◌⊎◌, List, [], ◌∷◌, ◌++◌}
+use Rattle.std.specs.Prelude.{◌≡◌, ◌≢◌, ℕ, ◌^◌, ◌<◌, ◌≤◌, ◌⊎◌, List, [], ◌∷◌, ◌++◌, length, get_or, All}
 use Rattle.nb_format.specs.Lines.{tick_line}
 
 -- the bytes are none, or end with a line feed
@@ -21,3 +21,19 @@ pub record Acknowledges (said : List ℕ) (k : ℕ) : Type 0 where
 -- no tick beyond this one was acknowledged
 abbrev pub IsToldUpTo : ℕ → List ℕ → Type 0
 IsToldUpTo k said = (j : ℕ) → Acknowledges said j → j ≤ k
+
+-- a byte that stands in no line of a tick
+pub record IsForeignByte (byte : ℕ) : Type 0 where
+  pub nowhere : (k time gone : ℕ) → k < 2 ^ 64 → time < 2 ^ 64 → gone < 2 ^ 64 → All (λ b. b ≢ byte) (tick_line k time gone)
+
+-- The line of a text whose line feed stands here has such a byte: between the two stands no other line feed.
+pub record HasForeignByte (text : List ℕ) (end : ℕ) : Type 0 where
+  pub place : ℕ
+  pub before : place < end
+  pub foreign : IsForeignByte (get_or text place 0)
+  pub within : (i : ℕ) → place ≤ i → i < end → get_or text i 0 ≢ 10
+
+-- Each line of a text, from the start or behind a line feed up to the next one, has a byte that stands in no line of a tick.
+-- The bytes behind the last line feed may be any.
+pub record IsOtherText (text : List ℕ) : Type 0 where
+  pub each : (end : ℕ) → end < length text → get_or text end 0 ≡ 10 → HasForeignByte text end

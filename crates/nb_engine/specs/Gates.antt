@@ -4,7 +4,8 @@ use Rattle.nb_host.specs.Image.{Image}
 use Rattle.nb_model.specs.Leapfrog.{half_kick}
 use Rattle.nb_record.specs.Order.{by_key, sorted_by, HoldsKickedBodies}
 use Rattle.nb_engine.specs.Histories.{state_of, History, run_of, ticks_of}
-use Rattle.nb_engine.specs.Represents.{slot_of, snap_of, IsOpened, IsComplete}
+use Rattle.nb_tick.specs.Slots.{slot_of}
+use Rattle.nb_engine.specs.Represents.{snap_of, IsOpened, IsComplete}
 
 -- Before that of the next tick: each due snapshot is finished, the other slot holds the list after it, in Morton order with the
 -- half kicks of that list, and what stands under the name of its snapshot isn't opened.

@@ -1,6 +1,14 @@
 pub mod Acknowledged
+pub mod Due
+pub mod Files
+pub mod Frame
 pub mod Gates
 pub mod Histories
+pub mod Reading
 pub mod Refusal
 pub mod Represents
+pub mod Sessions
 pub mod Shown
+pub mod Snapshots
+pub mod Start
+pub mod Steps

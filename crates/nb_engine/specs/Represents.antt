@@ -1,5 +1,5 @@
 -- What the files of a folder stand for.
-use Rattle.std.specs.Prelude.{◌≡◌, ◌≢◌, ℕ, ◌+◌, ◌%◌, ◌<◌, ◌≤◌, ◌⊎◌, List, length, slice_index}
+use Rattle.std.specs.Prelude.{◌≡◌, ◌≢◌, ℕ, ◌+◌, ◌<◌, ◌≤◌, ◌⊎◌, List, length, slice_index}
 use Rattle.nb_host.specs.declared.host.Channel.TheVariants as channels
 use Rattle.nb_host.specs.Image.{Image}
 use Rattle.nb_model.specs.Leapfrog.{half_kick}
@@ -7,16 +7,10 @@ use Rattle.nb_format.specs.Snapshot.{gate, IsSnapshot, IsFinishedSnapshot}
 use Rattle.nb_journal.specs.Form.{Log, IsFresh, IsCleanJournal}
 use Rattle.nb_journal.specs.Offsets.{journal_file}
 use Rattle.nb_record.specs.Order.{by_key, sorted_by, HoldsBodies, HoldsKickedBodies}
+use Rattle.nb_tick.specs.Slots.{slot_of}
 use Rattle.nb_engine.specs.Acknowledged.{IsToldUpTo}
+use Rattle.nb_engine.specs.Files.{init_file}
 use Rattle.nb_engine.specs.Histories.{Run, state_of, time_of, IsDue, History, run_of, ticks_of, IsHistory}
-
--- the file of the initial snapshot
-abbrev pub init_file : ℕ
-init_file = 1
-
--- the file in which the bodies stand after k ticks
-abbrev pub slot_of : ℕ → ℕ
-slot_of k = 3 + k % 2
 
 -- the file of the snapshot that is written after tick k
 abbrev pub snap_of : ℕ → ℕ

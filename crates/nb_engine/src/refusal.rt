@@ -1,12 +1,15 @@
 //! Why a session is refused.
 
 ghost use Rattle.std.specs.Prelude.{◌≡◌};
-ghost use Rattle.nb_engine.specs.Refusal.{of_host, of_journal, of_snapshot};
+ghost use Rattle.nb_engine.specs.Refusal.{of_host, of_journal, of_snapshot, of_cache, of_order, of_tick};
 ghost use Rattle.nb_engine.specs.declared.refusal.Refusal.TheVariants as refusal;
 
+use nb_cache::CacheError;
 use nb_format::{ParamsError, SnapError};
 use nb_host::{HostError, PageName};
 use nb_journal::JournalError;
+use nb_order::OrderError;
+use nb_tick::TickError;
 use std::alloc::AllocError;
 
 /// The file of the journal.
@@ -76,6 +79,42 @@ impl From<SnapError> for Refusal {
             SnapError::Fault => Refusal::Device,
             SnapError::NoMemory => Refusal::NoMemory,
             _ => Refusal::Snapshot(error),
+        }
+    }
+}
+
+impl From<CacheError> for Refusal {
+    ghost from_gives = { λ error r. r ≡ of_cache error };
+
+    fn from(error: CacheError) -> Self {
+        match error {
+            CacheError::Fault => Refusal::Device,
+            CacheError::NoMemory => Refusal::NoMemory,
+            CacheError::Short(page) => Refusal::Damaged(page),
+        }
+    }
+}
+
+impl From<OrderError> for Refusal {
+    ghost from_gives = { λ error r. r ≡ of_order error };
+
+    fn from(error: OrderError) -> Self {
+        match error {
+            OrderError::Fault => Refusal::Device,
+            OrderError::NoMemory => Refusal::NoMemory,
+            OrderError::Damaged(page) => Refusal::Damaged(page),
+        }
+    }
+}
+
+impl From<TickError> for Refusal {
+    ghost from_gives = { λ error r. r ≡ of_tick error };
+
+    fn from(error: TickError) -> Self {
+        match error {
+            TickError::Fault => Refusal::Device,
+            TickError::NoMemory => Refusal::NoMemory,
+            TickError::Damaged(page) => Refusal::Damaged(page),
         }
     }
 }

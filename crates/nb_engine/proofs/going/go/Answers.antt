@@ -1,0 +1,162 @@
+use Rattle.std.proofs.Common.{rules, ◌≡◌, ◌⊎◌, inl, inr, Err, IsTrue, IsOk, refl, sym, subst, ◌∙◌}
+use Rattle.nb_journal.specs.Counters.{Counters}
+use Rattle.nb_engine.specs.Refusal.{NeedsNoCause, of_host}
+use Rattle.nb_engine.specs.Sessions.{IsNoLeg, IsGoRefused, IsSlotSpoilt}
+use Rattle.nb_engine.proofs.Departures.{can_go, led_there, appended, spoilt_leg, went_on, led_on, no_leg_steady, settled_journal}
+use Rattle.nb_engine.proofs.Frames.{inside, ok_isnt, free_by_host, session_synced, session_then, session_by, session_handed, session_ended, session_host}
+use Rattle.nb_engine.proofs.GoingOn.{go_opened, next_leg}
+use Rattle.nb_engine.proofs.going.go.Goals as goal
+
+-- ---- the session was begun, and no more
+
+pub returns-in_err-journal-clause-ran : goal.returns-in_err-journal-clause-ran
+returns-in_err-journal-clause-ran g c =
+    let why = c.in_err-journal.field-0.0 in
+    let handed_on : c.from_residual.result ≡ Err why = search rules in
+    let leads = go_opened g.H.Host.meaning c.args.target c.requires.durable c.in_err-journal.ensures.ran.leads c.in_err-journal.ensures.images in
+    rw handed_on (session_handed (session_by c.open.ensures.ran leads) c.in_err-journal.was)
+
+pub returns-in-Some-clause-cause : goal.returns-in-Some-clause-cause
+returns-in-Some-clause-cause g c tells =
+    let there = c.in_ok-journal.ensures.found tells in
+    inr (inl (inr (
+      there.log,
+      there.journal,
+      subst (λ (k : Counters). IsNoLeg c.args.target k.progress c.in-Some.why) there.answers c.in-Some.ensures.some.0,
+    )))
+
+pub returns-in-Some-clause-ran : goal.returns-in-Some-clause-ran
+returns-in-Some-clause-ran g c =
+    let ok : IsOk c.open.result = search rules in
+    let leads = go_opened g.H.Host.meaning c.args.target c.requires.durable c.in_ok-journal.ensures.ran.leads c.in_ok-journal.ensures.images in
+    session_ended (session_by c.open.ensures.ran leads) ok
+    (λ is. no_leg_steady c.args.target c.in_ok-journal.field-0.journal {why = c.in-Some.why} c.in-Some.ensures.some.0 (inside is))
+
+-- ---- the run is at the target
+
+pub returns-then-target-time-clause-done : goal.returns-then-target-time-clause-done
+returns-then-target-time-clause-done g c tells h is represents =
+    led_there g.H.Host.meaning c.args.target c.in_ok-journal.field-0.journal c.requires.durable c.in_ok-journal.ensures.found
+    c.in_ok-journal.ensures.ran.leads c.in_ok-journal.ensures.images c.in_ok-journal.ensures.opened
+    (c.no_leg.ensures.none (search rules)) (c.if-target-time.true ∙ c.time.ensures) c.done_of.ensures.time
+    c.done_of.ensures.ticks c.done_of.ensures.gone tells h is represents
+
+pub returns-then-target-time-clause-ready : goal.returns-then-target-time-clause-ready
+returns-then-target-time-clause-ready g c tells =
+    can_go g.H.Host.meaning c.args.target c.in_ok-journal.field-0.journal c.requires.durable c.in_ok-journal.ensures.found
+    c.in_ok-journal.ensures.ran.leads c.in_ok-journal.ensures.images c.in_ok-journal.ensures.opened
+    (c.no_leg.ensures.none (search rules)) tells
+
+pub returns-then-target-time-clause-ran : goal.returns-then-target-time-clause-ran
+returns-then-target-time-clause-ran g c =
+    let ok : IsOk c.open.result = search rules in
+    let leads = go_opened g.H.Host.meaning c.args.target c.requires.durable c.in_ok-journal.ensures.ran.leads c.in_ok-journal.ensures.images in
+    session_ended (session_by c.open.ensures.ran leads) ok ok_isnt
+
+-- ---- a leg is added
+
+pub append-requires : goal.append-requires
+append-requires g c = record {
+  next = next_leg c.args.target c.in_ok-journal.field-0.journal c.ranges.target.fits
+      (λ same. c.if-target-time.false (same ∙ sym c.time.ensures)) (c.no_leg.ensures.none (search rules));
+}
+
+pub returns-in_err-journal-2-clause-cause : goal.returns-in_err-journal-2-clause-cause
+returns-in_err-journal-2-clause-cause g c =
+    let error = c.in_err-journal-2.field-0.0 in
+    let handed_on : c.from_residual-in_err-journal-2.result ≡ Err (of_host error) = search rules in
+    let free : IsTrue g.H.Host.meaning.tells → NeedsNoCause (of_host error)
+    ⊎ IsGoRefused c.args.target (g.H.Host.meaning.contents c.args.host.now).file (of_host error)
+    ⊎ IsSlotSpoilt (g.H.Host.meaning.contents c.args.host.now).file (of_host error) = λ tells. inl (free_by_host error) in
+    rw handed_on free
+
+pub returns-in_err-journal-2-clause-ran : goal.returns-in_err-journal-2-clause-ran
+returns-in_err-journal-2-clause-ran g c =
+    let error = c.in_err-journal-2.field-0.0 in
+    let handed_on : c.from_residual-in_err-journal-2.result ≡ Err (of_host error) = search rules in
+    let ok : IsOk c.open.result = search rules in
+    let next = next_leg c.args.target c.in_ok-journal.field-0.journal c.ranges.target.fits
+    (λ same. c.if-target-time.false (same ∙ sym c.time.ensures)) (c.no_leg.ensures.none (search rules)) in
+    let leads = appended g.H.Host.meaning c.args.target c.in_ok-journal.field-0.journal c.requires.durable c.in_ok-journal.ensures.found
+    c.in_ok-journal.ensures.ran.leads c.in_ok-journal.ensures.images c.in_ok-journal.ensures.opened
+    (c.no_leg.ensures.none (search rules)) next c.in_err-journal-2.ensures.ran.leads c.in_err-journal-2.ensures.images in
+    rw handed_on (session_then ok c.open.ensures.ran (session_host c.append.ensures.ran c.in_err-journal-2.was) leads)
+
+-- ---- and run
+
+pub run_leg-requires : goal.run_leg-requires
+run_leg-requires g c = settled_journal c.in_ok-journal-2.ensures.ran.leads c.in_ok-journal.ensures.settled
+
+pub returns-in_err-journal-3-clause-cause : goal.returns-in_err-journal-3-clause-cause
+returns-in_err-journal-3-clause-cause g c =
+    let why = c.in_err-journal-3.field-0.0 in
+    let handed_on : c.from_residual-in_err-journal-3.result ≡ Err why = search rules in
+    let next = next_leg c.args.target c.in_ok-journal.field-0.journal c.ranges.target.fits
+    (λ same. c.if-target-time.false (same ∙ sym c.time.ensures)) (c.no_leg.ensures.none (search rules)) in
+    let cause : IsTrue g.H.Host.meaning.tells → NeedsNoCause why
+    ⊎ IsGoRefused c.args.target (g.H.Host.meaning.contents c.args.host.now).file why
+    ⊎ IsSlotSpoilt (g.H.Host.meaning.contents c.args.host.now).file why = λ tells. elim c.in_err-journal-3.ensures.cause [
+      | inl free ↦ inl free
+      | inr spoilt ↦ inr (inr (spoilt_leg g.H.Host.meaning c.args.target c.in_ok-journal.field-0.journal c.requires.durable
+          c.in_ok-journal.ensures.found c.in_ok-journal.ensures.ran.leads c.in_ok-journal.ensures.images
+          c.in_ok-journal.ensures.opened (c.no_leg.ensures.none (search rules)) next c.in_ok-journal-2.ensures.ran.leads
+          c.in_ok-journal-2.ensures.images c.in_ok-journal-2.ensures.counters tells spoilt))
+    ] in
+    rw handed_on cause
+
+pub returns-in_err-journal-3-clause-ran : goal.returns-in_err-journal-3-clause-ran
+returns-in_err-journal-3-clause-ran g c =
+    let why = c.in_err-journal-3.field-0.0 in
+    let handed_on : c.from_residual-in_err-journal-3.result ≡ Err why = search rules in
+    let ok : IsOk c.open.result = search rules in
+    let added : IsOk c.append.result = search rules in
+    let next = next_leg c.args.target c.in_ok-journal.field-0.journal c.ranges.target.fits
+    (λ same. c.if-target-time.false (same ∙ sym c.time.ensures)) (c.no_leg.ensures.none (search rules)) in
+    let before = appended g.H.Host.meaning c.args.target c.in_ok-journal.field-0.journal c.requires.durable c.in_ok-journal.ensures.found
+    c.in_ok-journal.ensures.ran.leads c.in_ok-journal.ensures.images c.in_ok-journal.ensures.opened
+    (c.no_leg.ensures.none (search rules)) next c.in_ok-journal-2.ensures.ran.leads c.in_ok-journal-2.ensures.images in
+    let leads = went_on g.H.Host.meaning c.args.target c.in_ok-journal.field-0.journal c.requires.durable c.in_ok-journal.ensures.found
+    c.in_ok-journal.ensures.ran.leads c.in_ok-journal.ensures.images c.in_ok-journal.ensures.opened
+    (c.no_leg.ensures.none (search rules)) next c.in_ok-journal-2.ensures.ran.leads c.in_ok-journal-2.ensures.images
+    c.in_ok-journal-2.ensures.counters c.in_ok-journal-2.ensures.durable c.in_ok-journal-2.ensures.added
+    c.in_err-journal-3.ensures.ran.leads c.in_err-journal-3.ensures.images in
+    let first = session_then ok c.open.ensures.ran (session_synced c.append.ensures.ran added) before in
+    rw handed_on (session_handed (session_then refl first c.run_leg.ensures.ran leads) c.in_err-journal-3.was)
+
+pub returns-clause-ready : goal.returns-clause-ready
+returns-clause-ready g c tells =
+    can_go g.H.Host.meaning c.args.target c.in_ok-journal.field-0.journal c.requires.durable c.in_ok-journal.ensures.found
+    c.in_ok-journal.ensures.ran.leads c.in_ok-journal.ensures.images c.in_ok-journal.ensures.opened
+    (c.no_leg.ensures.none (search rules)) tells
+
+pub returns-clause-durable : goal.returns-clause-durable
+returns-clause-durable g c = c.in_ok-journal-3.ensures.durable c.in_ok-journal-2.ensures.durable
+
+pub returns-clause-done : goal.returns-clause-done
+returns-clause-done g c tells h is represents =
+    let next = next_leg c.args.target c.in_ok-journal.field-0.journal c.ranges.target.fits
+    (λ same. c.if-target-time.false (same ∙ sym c.time.ensures)) (c.no_leg.ensures.none (search rules)) in
+    led_on g.H.Host.meaning c.args.target c.in_ok-journal.field-0.journal c.requires.durable c.in_ok-journal.ensures.found
+    c.in_ok-journal.ensures.ran.leads c.in_ok-journal.ensures.images c.in_ok-journal.ensures.opened
+    (c.no_leg.ensures.none (search rules)) next c.in_ok-journal-2.ensures.ran.leads c.in_ok-journal-2.ensures.images
+    c.in_ok-journal-2.ensures.counters c.in_ok-journal-2.ensures.durable c.in_ok-journal-2.ensures.added
+    (λ same. c.if-target-time.false (same ∙ sym c.time.ensures)) c.in_ok-journal-3.ensures.run
+    c.in_ok-journal-3.ensures.ended c.done_of-2.ensures.time c.done_of-2.ensures.ticks c.done_of-2.ensures.gone tells h is represents
+
+pub returns-clause-ran : goal.returns-clause-ran
+returns-clause-ran g c =
+    let ok : IsOk c.open.result = search rules in
+    let added : IsOk c.append.result = search rules in
+    let run : IsOk c.run_leg.result = search rules in
+    let next = next_leg c.args.target c.in_ok-journal.field-0.journal c.ranges.target.fits
+    (λ same. c.if-target-time.false (same ∙ sym c.time.ensures)) (c.no_leg.ensures.none (search rules)) in
+    let before = appended g.H.Host.meaning c.args.target c.in_ok-journal.field-0.journal c.requires.durable c.in_ok-journal.ensures.found
+    c.in_ok-journal.ensures.ran.leads c.in_ok-journal.ensures.images c.in_ok-journal.ensures.opened
+    (c.no_leg.ensures.none (search rules)) next c.in_ok-journal-2.ensures.ran.leads c.in_ok-journal-2.ensures.images in
+    let leads = went_on g.H.Host.meaning c.args.target c.in_ok-journal.field-0.journal c.requires.durable c.in_ok-journal.ensures.found
+    c.in_ok-journal.ensures.ran.leads c.in_ok-journal.ensures.images c.in_ok-journal.ensures.opened
+    (c.no_leg.ensures.none (search rules)) next c.in_ok-journal-2.ensures.ran.leads c.in_ok-journal-2.ensures.images
+    c.in_ok-journal-2.ensures.counters c.in_ok-journal-2.ensures.durable c.in_ok-journal-2.ensures.added
+    c.in_ok-journal-3.ensures.ran.leads c.in_ok-journal-3.ensures.images in
+    let first = session_then ok c.open.ensures.ran (session_synced c.append.ensures.ran added) before in
+    session_ended (session_then refl first c.run_leg.ensures.ran leads) run ok_isnt

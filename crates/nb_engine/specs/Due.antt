@@ -1,0 +1,14 @@
+-- When a snapshot is due, by the counters of a journal.
+use Rattle.std.specs.Prelude.{◌≡◌, ◌⊎◌, ◌%◌, ◌≤◌, IsTrue, ◌↔◌, Bool}
+use Rattle.nb_journal.specs.Counters.{Counters}
+use Rattle.nb_engine.specs.Histories.{IsDue, History, run_of, ticks_of}
+
+-- After a tick: at every so many of them, and where it ended its leg.
+abbrev pub IsDueBy : Counters → Type 0
+IsDueBy journal =
+    (1 ≤ journal.progress.ticks)
+    × ((journal.progress.ticks % journal.params.every ≡ 0) ⊎ (journal.progress.time ≡ journal.progress.target))
+
+-- The answer says whether a snapshot is due after the last tick of this history.
+abbrev pub TellsDue : History → Bool → Type 0
+TellsDue h due = IsTrue due ↔ IsDue (run_of h) (ticks_of h)

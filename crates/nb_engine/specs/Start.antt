@@ -1,0 +1,106 @@
+-- What a run begins with, and when none can begin.
+use Rattle.std.specs.Prelude.{◌≡◌, ◌⊎◌, ⊤, ℕ, ◌*◌, nat_le, if◌then◌else◌, Bool, IsTrue, Option, None, Some, Ok, Err, List, [], ◌∷◌, length}
+use Rattle.nb_host.specs.declared.host.Channel.TheVariants as channels
+use Rattle.nb_host.specs.Crashes.{AgreesOutside}
+use Rattle.nb_host.specs.Image.{Image}
+use Rattle.nb_model.specs.declared.body.Body.{Body}
+use Rattle.nb_model.specs.declared.params.Params.{Params}
+use Rattle.nb_model.specs.Leapfrog.{escaped_count}
+use Rattle.nb_model.specs.Limits.{gm_limit}
+use Rattle.nb_model.specs.Octree.{total_mass}
+use Rattle.nb_format.specs.declared.params_error.ParamsError.{ParamsError}
+use Rattle.nb_format.specs.declared.snap_error.SnapError.{SnapError}
+use Rattle.nb_format.specs.ParamsText.{params_of, NamesParameter}
+use Rattle.nb_format.specs.Snapshot.{IsSnapshot}
+use Rattle.nb_format.specs.SnapshotRefusal.{snapshot_refusal, IsBySnapshot}
+use Rattle.nb_journal.specs.Counters.{new_log}
+use Rattle.nb_journal.specs.Form.{Log, IsFresh, IsJournal, IsDamagedAt}
+use Rattle.nb_journal.specs.Offsets.{journal_file}
+use Rattle.nb_engine.specs.declared.refusal.Refusal.{Refusal}
+use Rattle.nb_engine.specs.declared.refusal.Refusal.TheVariants as refusal
+use Rattle.nb_engine.specs.declared.run_start.Begun.{Begun}
+use Rattle.nb_engine.specs.Histories.{History}
+use Rattle.nb_engine.specs.Refusal.{damaged_journal}
+use Rattle.nb_engine.specs.Acknowledged.{IsToldUpTo}
+use Rattle.nb_engine.specs.Files.{params_file, init_file}
+use Rattle.nb_engine.specs.Represents.{RepresentsHistory}
+use Rattle.nb_tick.specs.Slots.{slot_of, drifted_file}
+
+-- what a run begins with: its parameters, and the bodies at a time
+pub record Start : Type 0 where
+  pub params : Params
+  pub bodies : List Body
+  pub time : ℕ
+
+-- The parameter text and the initial snapshot spell this start.
+pub record HasStart (files : ℕ → List ℕ) (start : Start) : Type 0 where
+  pub parameters : params_of (files params_file) ≡ Ok start.params
+  pub snapshot : IsSnapshot (files init_file) start.bodies start.time
+
+-- the refusal of bodies with which no run can begin: the constant of gravity times their mass is too great
+abbrev pub start_refusal : Params → List Body → Option Refusal
+start_refusal params bodies =
+    if nat_le gm_limit (params.grav * total_mass bodies) then Some (refusal.TooHeavy params.grav (total_mass bodies)) else None
+
+-- No run can begin, since the parameter text is none.
+pub record HasNoParams (files : ℕ → List ℕ) (error : ParamsError) : Type 0 where
+  pub refused : params_of (files params_file) ≡ Err error
+
+-- None can, since the initial snapshot is none.
+pub record HasNoSnapshot (files : ℕ → List ℕ) (params : Params) (error : SnapError) : Type 0 where
+  pub parameters : params_of (files params_file) ≡ Ok params
+  pub refused : snapshot_refusal (files init_file) ≡ Some error
+
+-- The first cause, in this order, for which no run can begin with what the files hold: the parameter text, the snapshot, and
+-- the mass of what they spell.
+abbrev pub IsNoStart : (ℕ → List ℕ) → Refusal → Type 0
+IsNoStart files why =
+    ((error : ParamsError) × HasNoParams files error × (why ≡ refusal.Params error))
+    ⊎ ((params : Params) × (error : SnapError) × HasNoSnapshot files params error × (why ≡ refusal.Snapshot error))
+    ⊎ ((start : Start) × HasStart files start × (start_refusal start.params start.bodies ≡ Some why))
+
+-- ---- the command `start`
+
+-- A run can be started in the folder: none is, and it can begin so.
+pub record IsStartReady (files : ℕ → List ℕ) (start : Start) : Type 0 where
+  pub fresh : IsFresh (files journal_file)
+  pub starts : HasStart files start
+  pub light : start_refusal start.params start.bodies ≡ None
+
+-- Why none can be: one is started, or its journal is damaged, or none is and none can begin. No folder has two causes.
+abbrev pub IsStartRefused : (ℕ → List ℕ) → Refusal → Type 0
+IsStartRefused files why =
+    ((why ≡ refusal.Started) × ((log : Log) × IsJournal log (files journal_file)))
+    ⊎ ((offset : ℕ) × (why ≡ damaged_journal offset) × IsDamagedAt offset (files journal_file))
+    ⊎ (IsFresh (files journal_file) × IsNoStart files why)
+
+-- the history of a run that was started and has no leg
+abbrev pub started : Start → History
+started start = record {
+  log = new_log start.params (length start.bodies) start.time (escaped_count start.bodies);
+  bodies = start.bodies;
+}
+
+-- The answer tells how many bodies there are, and the time.
+pub record TellsStart (start : Start) (begun : Begun) : Type 0 where
+  pub count : begun.count ≡ length start.bodies
+  pub time : begun.time ≡ start.time
+
+-- What `start` may have changed at some moment, done or not: the journal and the files in which it lays down the bodies. Of an
+-- honest host no run is started still, or it is this one, where it can be. Where none can, nothing changes.
+pub record StartLeads (honest : Bool) (old new : Image) : Type 0 where
+  pub others : AgreesOutside (journal_file ∷ slot_of 0 ∷ drifted_file ∷ []) old new
+  pub idle : ((start : Start) → IsStartReady old.file start → ⊥) → new ≡ old
+  pub begins : IsTrue honest → IsFresh (old.file journal_file) → IsFresh (new.file journal_file)
+      ⊎ ((start : Start) × IsStartReady old.file start × (IsToldUpTo 0 (old.said channels.Out) → RepresentsHistory (started start) new))
+
+-- a refusal that `start` gives, whatever the host tells
+abbrev pub IsOfStart : Refusal → Type 0
+IsOfStart (refusal.Params error) = NamesParameter error
+IsOfStart (refusal.Snapshot error) = IsBySnapshot error
+IsOfStart (refusal.TooHeavy _ _) = ⊤
+IsOfStart refusal.Started = ⊤
+IsOfStart refusal.Device = ⊤
+IsOfStart (refusal.Damaged _) = ⊤
+IsOfStart refusal.NoMemory = ⊤
+IsOfStart _ = ⊥

@@ -1,0 +1,123 @@
+-- What the steps of a session need of a folder, and what they leave of it.
+use Rattle.std.specs.Prelude.{◌≡◌, ◌≢◌, ℕ, zero, suc, ◌+◌, ◌≤◌, IsTrue, List, [], ◌∷◌, ◌++◌, length, take, Contains}
+use Rattle.nb_model.specs.declared.body.Body.{Body}
+use Rattle.nb_model.specs.Leapfrog.{escaped_count, half_kick}
+use Rattle.nb_model.specs.Valid.{IsValidBodies}
+use Rattle.nb_host.specs.declared.host.Channel.TheVariants as channels
+use Rattle.nb_host.specs.declared.page_name.PageName.{PageName}
+use Rattle.nb_host.specs.Image.{Image}
+use Rattle.nb_host.specs.Meaning.{HostModel, IsDurable}
+use Rattle.nb_format.specs.Lines.{tick_line}
+use Rattle.nb_format.specs.Snapshot.{IsFinishedSnapshot}
+use Rattle.nb_journal.specs.Counters.{Counters, Answers}
+use Rattle.nb_journal.specs.Offsets.{journal_file}
+use Rattle.nb_record.specs.Order.{by_key, sorted_by, HoldsBodies, HoldsKickedBodies}
+use Rattle.nb_cache.specs.InStep.{IsInStep}
+use Rattle.nb_cache.specs.View.{CacheValue}
+use Rattle.nb_tick.specs.Slots.{slot_of, drifted_file, sorted_file, cell_file}
+use Rattle.nb_tick.specs.State.{IsCellIndexOf}
+use Rattle.nb_engine.specs.declared.refusal.Refusal.{Refusal}
+use Rattle.nb_engine.specs.declared.refusal.Refusal.TheVariants as refusal
+use Rattle.nb_engine.specs.Histories.{Run, state_of, time_of, History, run_of, ticks_of, IsHistory, ticked}
+use Rattle.nb_engine.specs.Represents.{snap_of, IsOpened, IsComplete, RepresentsHistory}
+
+-- ---- the lines of ticks
+
+-- the line of a run's tick k
+abbrev pub line_of : Run → ℕ → List ℕ
+line_of run k = tick_line k (time_of run k) (escaped_count (state_of run k))
+
+-- those of the n ticks behind tick k
+abbrev pub lines_behind : Run → ℕ → ℕ → List ℕ
+lines_behind run k zero = []
+lines_behind run k (suc n) = lines_behind run k n ++ line_of run (suc (k + n))
+
+-- The bytes said on a channel are those of before and a front of this text.
+abbrev pub SaidFrontOf : List ℕ → List ℕ → List ℕ → Type 0
+SaidFrontOf text old new = (n : ℕ) × (n ≤ length text) × (new ≡ old ++ take n text)
+
+-- ---- before and behind a step
+
+-- the history n ticks later
+abbrev pub played : ℕ → History → History
+played zero h = h
+played (suc n) h = ticked (played n h)
+
+-- Of a host that tells: what reads is durable and represents this history, and the journal in hand tells it.
+pub record IsAt {H : Type 0} (m : HostModel H) (h : History) (journal : Counters) (host : H) : Type 0 where
+  pub tells : IsTrue m.tells
+  pub durable : IsDurable m host
+  pub is : IsHistory h
+  pub answers : Answers h.log journal
+  pub represents : RepresentsHistory h (m.contents host)
+
+-- The cache is in step with its host, and of its files only the scratch file of a snapshot may be unwritten.
+pub record IsSettled {H : Type 0} (m : HostModel H) (cache : CacheValue) (host : H) : Type 0 where
+  pub in_step : IsInStep m cache host
+  pub unwritten : (file : ℕ) → Contains cache.unwritten file → file ≡ sorted_file
+
+-- What a folder has to hold so that its run can go on, whatever else it holds: valid bodies in the slot of the last tick, in
+-- Morton order, as many as the journal tells, of which as many are out. Their kicks may be any.
+pub record HasState (journal : Counters) (bodies : List Body) (files : ℕ → List ℕ) : Type 0 where
+  pub valid : IsValidBodies journal.params bodies
+  pub count : length bodies ≡ journal.count
+  pub gone : escaped_count bodies ≡ journal.progress.gone
+  pub slot : HoldsBodies (files (slot_of journal.progress.ticks)) (sorted_by by_key bodies)
+
+-- A page isn't what it has to be: it is one of a file but the journal's, and over a host that tells the folder doesn't hold
+-- what its run needs to go on.
+pub record IsSpoilt {H : Type 0} (m : HostModel H) (journal : Counters) (host : H) (why : Refusal) : Type 0 where
+  pub page : PageName
+  pub shown : why ≡ refusal.Damaged page
+  pub file : page.file ≢ journal_file
+  pub cause : IsTrue m.tells → (bodies : List Body) → HasState journal bodies (m.contents host).file → ⊥
+
+-- ---- one tick
+
+-- the files into which a tick writes, before its entry
+abbrev pub fill_files : ℕ → List ℕ
+fill_files k = slot_of (suc k) ∷ drifted_file ∷ sorted_file ∷ cell_file ∷ snap_of (suc k) ∷ []
+
+-- Before the entry of the next tick: the other slot holds the list after it, in Morton order with its half kicks, the file of
+-- cells is its index, and nothing stands under the name of its snapshot.
+pub record IsFilled (h : History) (image : Image) : Type 0 where
+  pub slot : HoldsKickedBodies (image.file (slot_of (suc (ticks_of h))))
+      (half_kick h.log.params (state_of (run_of h) (suc (ticks_of h))))
+      (sorted_by by_key (state_of (run_of h) (suc (ticks_of h))))
+  pub cells : IsCellIndexOf h.log.params (state_of (run_of h) (suc (ticks_of h))) (image.file cell_file)
+  pub shut : IsOpened (image.file (snap_of (suc (ticks_of h)))) → ⊥
+
+-- The other slot holds a list that the next tick can go on from, with so many bodies out.
+pub record HasNext (journal : Counters) (gone : ℕ) (files : ℕ → List ℕ) : Type 0 where
+  pub bodies : List Body
+  pub valid : IsValidBodies journal.params bodies
+  pub count : length bodies ≡ journal.count
+  pub gone_is : escaped_count bodies ≡ gone
+  pub no_fewer : journal.progress.gone ≤ gone
+  pub slot : HoldsBodies (files (slot_of (suc journal.progress.ticks))) (sorted_by by_key bodies)
+
+-- ---- ticks
+
+-- What a folder that represented a history may hold at some moment since, when at most so many ticks came behind: it
+-- represents the history some ticks later, each snapshot that was finished is as it was, and what was said is a front of
+-- their lines.
+pub record GoesOn (most : ℕ) (h : History) (before image : Image) : Type 0 where
+  pub done : ℕ
+  pub few : done ≤ most
+  pub represents : RepresentsHistory (played done h) image
+  pub kept : (j : ℕ) → j ≤ ticks_of h → IsFinishedSnapshot (length h.bodies) (before.file (snap_of j))
+      → image.file (snap_of j) ≡ before.file (snap_of j)
+  pub said : SaidFrontOf (lines_behind (run_of h) (ticks_of h) done) (before.said channels.Out) (image.said channels.Out)
+
+-- So many ticks are done, and told: all of that is durable, and the journal in hand tells it.
+pub record HasPlayed {H : Type 0} (m : HostModel H) (n : ℕ) (h : History) (before : Image) (journal : Counters) (host : H) : Type 0 where
+  pub at : IsAt m (played n h) journal host
+  pub kept : (j : ℕ) → j ≤ ticks_of h → IsFinishedSnapshot (length h.bodies) (before.file (snap_of j))
+      → (m.contents host).file (snap_of j) ≡ before.file (snap_of j)
+  pub said : (m.contents host).said channels.Out ≡ before.said channels.Out ++ lines_behind (run_of h) (ticks_of h) n
+  pub cells : n ≢ 0
+      → IsCellIndexOf h.log.params (state_of (run_of (played n h)) (ticks_of (played n h))) ((m.contents host).file cell_file)
+
+-- All snapshots that are due are finished.
+abbrev pub IsUpToDate : {H : Type 0} → HostModel H → History → H → Type 0
+IsUpToDate m h host = IsComplete (run_of h) (ticks_of h) (m.contents host)
