@@ -1,28 +1,81 @@
 -- Which causes exclude each other.
-use Rattle.std.proofs.Common.{◌≡◌, ◌⊎◌, inl, inr, ℕ, List, refl, sym, ap, subst, ◌∙◌, arith}
+use Rattle.std.proofs.Common.{◌≡◌, ◌⊎◌, inl, inr, ℕ, List, [], get_or, refl, sym, ap, subst, ◌∙◌, arith}
 use Rattle.nb_host.specs.Image.{Image}
 use Rattle.nb_format.proofs.Snapshots.{one_snapshot}
 use Rattle.nb_format.proofs.SnapshotRefusals.{snapshot_none}
-use Rattle.nb_journal.specs.Form.{IsFresh, IsDamagedAt}
-use Rattle.nb_journal.proofs.Callers.{fresh_alone, not_both, one_damage}
+use Rattle.nb_journal.specs.Entries.{Progress}
+use Rattle.nb_journal.specs.Form.{Log, IsFresh, IsJournal, IsDamagedAt, progress_of}
+use Rattle.nb_journal.specs.Offsets.{journal_file}
+use Rattle.nb_journal.proofs.Callers.{fresh_alone, not_both, one_damage, one_journal}
 use Rattle.nb_engine.specs.declared.refusal.Refusal.{Refusal}
+use Rattle.nb_engine.specs.declared.refusal.Refusal.TheVariants as refusal
+use Rattle.nb_engine.specs.Sessions.{IsNoLeg, IsGoRefused, CanGo, IsOfGo, IsOfResume}
 use Rattle.nb_engine.specs.Refusal.{NeedsNoCause, damaged_journal}
 use Rattle.nb_engine.specs.Shown.{IsNotShown}
 use Rattle.nb_cli.specs.declared.stop.Stop.{Stop}
 use Rattle.nb_cli.specs.declared.stop.Stop.TheVariants as stop
 use Rattle.nb_cli.specs.declared.words.Job.{Job}
 use Rattle.nb_cli.specs.declared.words.Job.TheVariants as job
-use Rattle.nb_cli.specs.Words.{IsJob}
-use Rattle.nb_cli.specs.Once.{Start, HasStart, IsReady, IsRefused}
-use Rattle.nb_cli.specs.Answer.{IsJobReady, IsJobRefused, HasCause}
+use Rattle.nb_cli.specs.Words.{IsJob, IsWithNumber}
+use Rattle.nb_engine.specs.Start.{Start, HasStart, IsNoStart, IsStartReady, IsStartRefused, IsOfStart}
+use Rattle.nb_cli.specs.Stop.{IsGiven}
+use Rattle.nb_cli.specs.Once.{IsReady, IsRefused}
+use Rattle.nb_cli.specs.Answer.{IsJobReady, IsJobRefused, IsJobSpoilt, HasCause}
 
--- the words are one command only
+-- ---- the words are one command only
+
+-- the second letter of a command
+abbrev letter_of : Job → ℕ
+letter_of (job.Start pages) = 116
+letter_of (job.Go target pace) = 111
+letter_of (job.Resume pace) = 101
+letter_of job.Show = 104
+letter_of (job.Once target) = 110
+
+abbrev letter_in : List (List ℕ) → ℕ
+letter_in words = get_or (get_or words 0 []) 1 0
+
+letter_is : (words : List (List ℕ)) (a : Job) → IsJob words a → letter_in words ≡ letter_of a
+letter_is words (job.Start pages) is = ap letter_in is.0
+letter_is words (job.Go target pace) is = ap letter_in is.0.1
+letter_is words (job.Resume pace) is = ap letter_in is.0
+letter_is words job.Show is = ap letter_in is
+letter_is words (job.Once target) is = ap letter_in is.1
+
+same_number : {words : List (List ℕ)} {command : List ℕ} {a b : ℕ} → IsWithNumber words command a → IsWithNumber words command b
+    → a ≡ b
+same_number first second = let p = first.1 in let q = second.1 in let r = first.2 in let s = second.2 in cc
+
+by_letter : (words : List (List ℕ)) (a b : Job) → IsJob words a → IsJob words b → letter_of a ≡ letter_of b → a ≡ b
+by_letter words (job.Start pages) (job.Start pages2) first second same = ap job.Start (first.1 ∙ sym second.1)
+by_letter words (job.Start pages) (job.Go target2 pace2) first second same = absurd (omega (arith, same))
+by_letter words (job.Start pages) (job.Resume pace2) first second same = absurd (omega (arith, same))
+by_letter words (job.Start pages) job.Show first second same = absurd (omega (arith, same))
+by_letter words (job.Start pages) (job.Once target2) first second same = absurd (omega (arith, same))
+by_letter words (job.Go target pace) (job.Start pages2) first second same = absurd (omega (arith, same))
+by_letter words (job.Go target pace) (job.Go target2 pace2) first second same = ap (λ (t : ℕ). job.Go t pace) (same_number first.0 second.0) ∙ ap (job.Go target2) (first.1 ∙ sym second.1)
+by_letter words (job.Go target pace) (job.Resume pace2) first second same = absurd (omega (arith, same))
+by_letter words (job.Go target pace) job.Show first second same = absurd (omega (arith, same))
+by_letter words (job.Go target pace) (job.Once target2) first second same = absurd (omega (arith, same))
+by_letter words (job.Resume pace) (job.Start pages2) first second same = absurd (omega (arith, same))
+by_letter words (job.Resume pace) (job.Go target2 pace2) first second same = absurd (omega (arith, same))
+by_letter words (job.Resume pace) (job.Resume pace2) first second same = ap job.Resume (first.1 ∙ sym second.1)
+by_letter words (job.Resume pace) job.Show first second same = absurd (omega (arith, same))
+by_letter words (job.Resume pace) (job.Once target2) first second same = absurd (omega (arith, same))
+by_letter words job.Show (job.Start pages2) first second same = absurd (omega (arith, same))
+by_letter words job.Show (job.Go target2 pace2) first second same = absurd (omega (arith, same))
+by_letter words job.Show (job.Resume pace2) first second same = absurd (omega (arith, same))
+by_letter words job.Show job.Show first second same = refl
+by_letter words job.Show (job.Once target2) first second same = absurd (omega (arith, same))
+by_letter words (job.Once target) (job.Start pages2) first second same = absurd (omega (arith, same))
+by_letter words (job.Once target) (job.Go target2 pace2) first second same = absurd (omega (arith, same))
+by_letter words (job.Once target) (job.Resume pace2) first second same = absurd (omega (arith, same))
+by_letter words (job.Once target) job.Show first second same = absurd (omega (arith, same))
+by_letter words (job.Once target) (job.Once target2) first second same = ap job.Once (same_number first second)
+
 pub one_job : (words : List (List ℕ)) (a b : Job) → IsJob words a → IsJob words b → a ≡ b
-one_job words (job.Once a) (job.Once b) first second =
-    let p = first.1 in let q = second.1 in let r = first.2 in let s = second.2 in cc
-one_job words (job.Once a) job.Show first second = let p = first.1 in absurd (cc)
-one_job words job.Show (job.Once b) first second = let p = second.1 in absurd (cc)
-one_job words job.Show job.Show first second = refl
+one_job words a b first second =
+    by_letter words a b first second (sym (letter_is words a first) ∙ letter_is words b second)
 
 same_start : (a b : Start) → a.params ≡ b.params → a.bodies ≡ b.bodies → a.time ≡ b.time → a ≡ b
 same_start a b params bodies time =
@@ -45,11 +98,39 @@ not_refused ready (inr (inl none)) =
 not_refused ready (inr (inr beyond)) =
     let same = one_start ready.starts beyond.1.starts in let p = ready.takes in let q = beyond.1.refused in cc
 
+fresh_no_damage : (offset : ℕ) (file : List ℕ) → IsFresh file → IsDamagedAt offset file → ⊥
+fresh_no_damage offset file (inl short) damaged = absurd (omega (arith, short, damaged.started.long))
+fresh_no_damage offset file (inr shut) damaged = shut damaged.started.gate
+
+-- Where a run can be started nothing else holds.
+not_start : {files : ℕ → List ℕ} {start : Start} {why : Refusal} → IsStartReady files start → IsStartRefused files why → ⊥
+not_start ready (inl none) = fresh_alone none.1.0 0 _ ready.fresh (inl none.1.1)
+not_start ready (inr (inl none)) = fresh_no_damage none.0 _ ready.fresh none.2
+not_start ready (inr (inr (_, inl none))) = let p = ready.starts.parameters in let q = none.1.refused in cc
+not_start ready (inr (inr (_, inr (inl none)))) =
+    let p = snapshot_none _ _ _ ready.starts.snapshot in let q = none.2.refused in cc
+not_start ready (inr (inr (_, inr (inr none)))) =
+    let same = one_start ready.starts none.1 in let p = ready.light in let q = none.2 in cc
+
+-- Where there is a journal none is missing.
+pub not_shown : {file : List ℕ} {why : Refusal} (log : Log) → IsJournal log file → IsNotShown file why → ⊥
+not_shown log journal (inl none) = fresh_alone log 0 _ none.1 (inl journal)
+not_shown log journal (inr none) = not_both log none.0 _ journal none.2
+
+-- Where `go` can lead there nothing else holds.
+pub not_gone : (files : ℕ → List ℕ) (target : ℕ) {why : Refusal} → CanGo target files → IsGoRefused target files why → ⊥
+not_gone files target can (inl none) = not_shown can.0 can.1 none
+not_gone files target {why = why} can (inr none) =
+    let same = one_journal none.0 can.0 (files journal_file) none.1 can.1 in
+    can.2 why (subst (λ (l : Log). IsNoLeg target (progress_of l) why) same none.2)
+
 -- Where a command can be done it isn't refused.
-not_refused_job : (files : ℕ → List ℕ) (job : Job) (why : Refusal) → IsJobReady files job → IsJobRefused files job why → ⊥
+pub not_refused_job : (files : ℕ → List ℕ) (job : Job) (why : Refusal) → IsJobReady files job → IsJobRefused files job why → ⊥
+not_refused_job files (job.Start pages) why ready refused = not_start ready.1 refused
+not_refused_job files (job.Go target pace) why ready refused = not_gone files target ready refused
+not_refused_job files (job.Resume pace) why ready refused = not_shown ready.0 ready.1 refused
 not_refused_job files (job.Once target) why ready refused = not_refused ready.1 refused
-not_refused_job files job.Show why ready (inl none) = fresh_alone ready.0 0 _ none.1 (inl ready.1)
-not_refused_job files job.Show why ready (inr none) = not_both ready.0 none.0 _ ready.1 none.2
+not_refused_job files job.Show why ready refused = not_shown ready.0 ready.1 refused
 
 pub no_cause : {words : List (List ℕ)} {files : ℕ → List ℕ} {why : Stop} (job : Job)
     → IsJob words job → IsJobReady files job → HasCause words files why → ⊥
@@ -73,10 +154,6 @@ one_refusal (inr (inr first)) (inr (inl second)) =
 one_refusal (inr (inr first)) (inr (inr second)) =
     let same = one_start first.1.starts second.1.starts in let p = first.1.refused in let q = second.1.refused in cc
 
-fresh_no_damage : (offset : ℕ) (file : List ℕ) → IsFresh file → IsDamagedAt offset file → ⊥
-fresh_no_damage offset file (inl short) damaged = absurd (omega (arith, short, damaged.started.long))
-fresh_no_damage offset file (inr shut) damaged = shut damaged.started.gate
-
 one_shown : {file : List ℕ} {a b : Refusal} → IsNotShown file a → IsNotShown file b → a ≡ b
 one_shown (inl first) (inl second) = first.0 ∙ sym second.0
 one_shown (inl first) (inr second) = absurd (fresh_no_damage second.0 _ first.1 second.2)
@@ -84,7 +161,50 @@ one_shown (inr first) (inl second) = absurd (fresh_no_damage first.0 _ second.1 
 one_shown (inr first) (inr second) =
     first.1 ∙ ap damaged_journal (one_damage first.0 second.0 _ first.2 second.2) ∙ sym second.1
 
+one_no_start : {files : ℕ → List ℕ} {a b : Refusal} → IsNoStart files a → IsNoStart files b → a ≡ b
+one_no_start (inl first) (inl second) = let p = first.1.refused in let q = second.1.refused in let r = first.2 in let s = second.2 in cc
+one_no_start (inl first) (inr (inl second)) = let p = first.1.refused in let q = second.2.parameters in absurd (cc)
+one_no_start (inl first) (inr (inr second)) = let p = first.1.refused in let q = second.1.parameters in absurd (cc)
+one_no_start (inr (inl first)) (inl second) = let p = first.2.parameters in let q = second.1.refused in absurd (cc)
+one_no_start (inr (inl first)) (inr (inl second)) = let p = first.2.refused in let q = second.2.refused in let r = first.3 in let s = second.3 in cc
+one_no_start (inr (inl first)) (inr (inr second)) =
+    let p = first.2.refused in let q = snapshot_none _ _ _ second.1.snapshot in absurd (cc)
+one_no_start (inr (inr first)) (inl second) = let p = first.1.parameters in let q = second.1.refused in absurd (cc)
+one_no_start (inr (inr first)) (inr (inl second)) =
+    let p = snapshot_none _ _ _ first.1.snapshot in let q = second.2.refused in absurd (cc)
+one_no_start (inr (inr first)) (inr (inr second)) =
+    let same = one_start first.1 second.1 in let p = first.2 in let q = second.2 in cc
+
+one_start_refusal : {files : ℕ → List ℕ} {a b : Refusal} → IsStartRefused files a → IsStartRefused files b → a ≡ b
+one_start_refusal (inl first) (inl second) = first.0 ∙ sym second.0
+one_start_refusal (inl first) (inr (inl second)) = absurd (not_both first.1.0 second.0 _ first.1.1 second.2)
+one_start_refusal (inl first) (inr (inr second)) = absurd (fresh_alone first.1.0 0 _ second.0 (inl first.1.1))
+one_start_refusal (inr (inl first)) (inl second) = absurd (not_both second.1.0 first.0 _ second.1.1 first.2)
+one_start_refusal (inr (inl first)) (inr (inl second)) =
+    first.1 ∙ ap damaged_journal (one_damage first.0 second.0 _ first.2 second.2) ∙ sym second.1
+one_start_refusal (inr (inl first)) (inr (inr second)) = absurd (fresh_no_damage first.0 _ second.0 first.2)
+one_start_refusal (inr (inr first)) (inl second) = absurd (fresh_alone second.1.0 0 _ first.0 (inl second.1.1))
+one_start_refusal (inr (inr first)) (inr (inl second)) = absurd (fresh_no_damage second.0 _ first.0 second.2)
+one_start_refusal (inr (inr first)) (inr (inr second)) = one_no_start first.1 second.1
+
+one_leg_refusal : (target : ℕ) (s : Progress) {a b : Refusal} → IsNoLeg target s a → IsNoLeg target s b → a ≡ b
+one_leg_refusal target s (inl first) (inl second) = first.1 ∙ sym second.1
+one_leg_refusal target s (inl first) (inr second) = absurd (first.0 second.0)
+one_leg_refusal target s (inr first) (inl second) = absurd (second.0 first.0)
+one_leg_refusal target s (inr first) (inr second) = first.2 ∙ sym second.2
+
+one_go_refusal : (files : ℕ → List ℕ) (target : ℕ) {a b : Refusal} → IsGoRefused target files a → IsGoRefused target files b → a ≡ b
+one_go_refusal files target (inl first) (inl second) = one_shown first second
+one_go_refusal files target (inl first) (inr second) = absurd (not_shown second.0 second.1 first)
+one_go_refusal files target (inr first) (inl second) = absurd (not_shown first.0 first.1 second)
+one_go_refusal files target {a = a} (inr first) (inr second) =
+    let same = one_journal first.0 second.0 (files journal_file) first.1 second.1 in
+    one_leg_refusal target (progress_of second.0) (subst (λ (l : Log). IsNoLeg target (progress_of l) a) same first.2) second.2
+
 one_job_refusal : (files : ℕ → List ℕ) (job : Job) {a b : Refusal} → IsJobRefused files job a → IsJobRefused files job b → a ≡ b
+one_job_refusal files (job.Start pages) first second = one_start_refusal first second
+one_job_refusal files (job.Go target pace) first second = one_go_refusal files target first second
+one_job_refusal files (job.Resume pace) first second = one_shown first second
 one_job_refusal files (job.Once target) first second = one_refusal first second
 one_job_refusal files job.Show first second = one_shown first second
 
@@ -97,8 +217,60 @@ one_cause {words = words} {files = files} (inr first) (inr second) =
     let moved = subst P (one_job words first.0 second.0 first.3 second.3) first.4 in
     first.2 ∙ ap stop.Refused (one_job_refusal files second.0 moved second.4) ∙ sym second.2
 
+-- Why a command isn't done: it needs no cause, or it is refused, or spoilt.
+abbrev pub IsCause : (ℕ → List ℕ) → Job → Refusal → Type 0
+IsCause files job why = NeedsNoCause why ⊎ IsJobRefused files job why ⊎ IsJobSpoilt files job why
+
 -- the cause that a command met in an image that is as before
-pub cause_still : {old now : Image} {why : Refusal} (job : Job) → now ≡ old → NeedsNoCause why ⊎ IsJobRefused now.file job why
-    → NeedsNoCause why ⊎ IsJobRefused old.file job why
-cause_still {why = why} job same cause =
-    let P : Image → Type 0 = λ image. NeedsNoCause why ⊎ IsJobRefused image.file job why in subst P same cause
+pub cause_still : {old now : Image} {why : Refusal} (job : Job) → now ≡ old → IsCause now.file job why → IsCause old.file job why
+cause_still {why = why} job same cause = subst (λ (image : Image). IsCause image.file job why) same cause
+
+-- a command that is never spoilt
+pub never_spoilt : (files : ℕ → List ℕ) (job : Job) {why : Refusal} → NeedsNoCause why ⊎ IsJobRefused files job why
+    → IsCause files job why
+never_spoilt files job (inl free) = inl free
+never_spoilt files job (inr refused) = inr (inl refused)
+
+-- ---- which refusals the commands give
+
+pub given_by_start : (why : Refusal) → IsOfStart why → IsGiven why
+given_by_start (refusal.Params error) of_start = of_start
+given_by_start (refusal.Snapshot error) of_start = of_start
+given_by_start (refusal.TooHeavy grav mass) of_start = tt
+given_by_start refusal.NotStarted of_start = absurd of_start
+given_by_start refusal.Started of_start = tt
+given_by_start (refusal.LegOpen target time) of_start = absurd of_start
+given_by_start (refusal.TickLimit ticks) of_start = absurd of_start
+given_by_start refusal.InitThere of_start = absurd of_start
+given_by_start (refusal.TooMany count) of_start = absurd of_start
+given_by_start refusal.Device of_start = tt
+given_by_start (refusal.Damaged place) of_start = tt
+given_by_start refusal.NoMemory of_start = tt
+
+pub given_by_go : (why : Refusal) → IsOfGo why → IsGiven why
+given_by_go (refusal.Params error) of_go = absurd of_go
+given_by_go (refusal.Snapshot error) of_go = absurd of_go
+given_by_go (refusal.TooHeavy grav mass) of_go = absurd of_go
+given_by_go refusal.NotStarted of_go = tt
+given_by_go refusal.Started of_go = absurd of_go
+given_by_go (refusal.LegOpen target time) of_go = tt
+given_by_go (refusal.TickLimit ticks) of_go = tt
+given_by_go refusal.InitThere of_go = absurd of_go
+given_by_go (refusal.TooMany count) of_go = absurd of_go
+given_by_go refusal.Device of_go = tt
+given_by_go (refusal.Damaged place) of_go = tt
+given_by_go refusal.NoMemory of_go = tt
+
+pub given_by_resume : (why : Refusal) → IsOfResume why → IsGiven why
+given_by_resume (refusal.Params error) of_resume = absurd of_resume
+given_by_resume (refusal.Snapshot error) of_resume = absurd of_resume
+given_by_resume (refusal.TooHeavy grav mass) of_resume = absurd of_resume
+given_by_resume refusal.NotStarted of_resume = tt
+given_by_resume refusal.Started of_resume = absurd of_resume
+given_by_resume (refusal.LegOpen target time) of_resume = absurd of_resume
+given_by_resume (refusal.TickLimit ticks) of_resume = absurd of_resume
+given_by_resume refusal.InitThere of_resume = absurd of_resume
+given_by_resume (refusal.TooMany count) of_resume = absurd of_resume
+given_by_resume refusal.Device of_resume = tt
+given_by_resume (refusal.Damaged place) of_resume = tt
+given_by_resume refusal.NoMemory of_resume = tt

@@ -1,6 +1,5 @@
 mod WordLists
 mod Ids
-mod Reading
 mod Writing
 mod Ticks
 mod Starts
@@ -8,4 +7,6 @@ mod Causes
 mod Runs
 mod Saying
 mod Statuses
+mod Sessions
+mod Sounding
 mod Shown

@@ -1,5 +1,5 @@
 -- What a run of a command has changed, by its steps, in what reads and in the images.
-use Rattle.std.proofs.Common.{◌≡◌, ◌≢◌, ◌≤◌, ◌⊎◌, inl, inr, ℕ, List, ◌++◌, take, refl, ap, sym, subst, ◌∙◌, arith, IsTrue, IsOk, Result, Ok, Err, rules, ◌+◌}
+use Rattle.std.proofs.Common.{◌≡◌, ◌≢◌, ◌≤◌, ◌⊎◌, inl, inr, ℕ, List, ◌++◌, take, refl, ap, sym, subst, ◌∙◌, arith, Bool, Some, IsTrue, IsOk, Result, Ok, Err, rules, ◌+◌}
 use Rattle.std.proofs.lemmas.List.{append-nil}
 use Rattle.nb_model.specs.Leapfrog.{escaped_count}
 use Rattle.nb_host.specs.declared.host.Channel.{Channel}
@@ -19,27 +19,29 @@ use Rattle.nb_engine.specs.declared.refusal.Refusal.TheVariants as refusal
 use Rattle.nb_engine.specs.declared.shown.Shown.{Shown}
 use Rattle.nb_engine.specs.Refusal.{of_host, NeedsNoCause}
 use Rattle.nb_engine.specs.Shown.{TellsLog}
-use Rattle.nb_journal.specs.Form.{Log, IsJournal, progress_of}
+use Rattle.nb_journal.specs.Form.{Log, IsJournal}
 use Rattle.nb_journal.specs.Offsets.{journal_file}
 use Rattle.nb_cli.specs.declared.words.Job.TheVariants as job
-use Rattle.nb_cli.specs.Once.{once_file, Start, ticks_to, list_at, IsReady}
+use Rattle.nb_engine.specs.Start.{Start}
+use Rattle.nb_cli.specs.Once.{once_file, ticks_to as ticks_from, list_at, IsReady}
 use Rattle.nb_cli.specs.Done.{TellsOf, BecomesAny, MayWrite}
 use Rattle.nb_cli.specs.Show.{folder_text, show_text}
-use Rattle.nb_cli.specs.Answer.{SaidFrontOf, IsPartlyDone, IsPartlyShown, JobTouches, CountsRun, SyncsRun}
+use Rattle.nb_engine.specs.Steps.{SaidFrontOf}
+use Rattle.nb_cli.specs.Answer.{IsPartlyDone, JobTouches, CountsRun, SyncsRun}
 
-Out≢Err : ◌≡◌ {A = Channel} channels.Err channels.Out → ⊥
+pub Out≢Err : ◌≡◌ {A = Channel} channels.Err channels.Out → ⊥
 Out≢Err same = cc
 
 -- the line of a start at the target
 abbrev pub line_at : ℕ → Start → List ℕ
-line_at target start = once_line target (ticks_to target start) (escaped_count (list_at target start))
+line_at target start = once_line target (ticks_from target start) (escaped_count (list_at target start))
 
 -- the line that was made of the answer is that of the start
 line_of-answer : {target : ℕ} {start : Start} {done : Done} (line : List ℕ) → line ≡ once_line done.time done.ticks done.gone
     → TellsOf target start done → line ≡ line_at target start
 line_of-answer {target} {start} {done} line is tells =
     is ∙ ap (λ (t : ℕ). once_line t done.ticks done.gone) tells.time ∙ ap (λ (k : ℕ). once_line target k done.gone) tells.ticks
-    ∙ ap (λ (n : ℕ). once_line target (ticks_to target start) n) tells.gone
+    ∙ ap (λ (n : ℕ). once_line target (ticks_from target start) n) tells.gone
 
 -- What `once` may have written.
 
@@ -63,8 +65,8 @@ within_file {old = old} changed =
       said_last = inl out;
     }
 
-pub touched_by_file : {files : ℕ → List ℕ} {target : ℕ} {old now : Image} → MayWrite files target old now
-    → JobTouches files (job.Once target) old now
+pub touched_by_file : {honest : Bool} {files : ℕ → List ℕ} {target : ℕ} {old now : Image} → MayWrite files target old now
+    → JobTouches honest files (job.Once target) old now
 touched_by_file (inl same) =
     record { touches = inl same; err = ap (λ (image : Image). image.said channels.Err) same }
 touched_by_file (inr some) = record {
@@ -91,8 +93,8 @@ to_say {target = target} line same done is = record {
 }
 
 -- a front of it was said
-touched_by_line : {files : ℕ → List ℕ} {target : ℕ} {old middle now : Image} (line : List ℕ) → MayWrite files target old middle
-    → IsToSay files target line middle → SaysPart channels.Out line middle now → JobTouches files (job.Once target) old now
+touched_by_line : {honest : Bool} {files : ℕ → List ℕ} {target : ℕ} {old middle now : Image} (line : List ℕ) → MayWrite files target old middle
+    → IsToSay files target line middle → SaysPart channels.Out line middle now → JobTouches honest files (job.Once target) old now
 touched_by_line {target = target} {old = old} {middle = middle} {now = now} line wrote tells part =
     let P : List ℕ → Type 0 = λ text. SaidFrontOf text (old.said channels.Out) (now.said channels.Out) in
     let Q : (ℕ → List ℕ) → Type 0 = λ files. IsSnapshot (files once_file) (list_at target tells.start) target in
@@ -145,15 +147,15 @@ pub leads_synced : {H : Type 0} {m : HostModel H} {files : ℕ → List ℕ} {ta
     → Leads m (MayWrite files target) middle new → Leads m (MayWrite files target) old new
 leads_synced synced wrote = leads_before (λ image. inl refl) synced wrote
 
-pub leads_file : {H : Type 0} {m : HostModel H} {files : ℕ → List ℕ} {target : ℕ} {old new : H}
-    → Leads m (MayWrite files target) old new → Leads m (JobTouches files (job.Once target)) old new
+pub leads_file : {H : Type 0} {m : HostModel H} {honest : Bool} {files : ℕ → List ℕ} {target : ℕ} {old new : H}
+    → Leads m (MayWrite files target) old new → Leads m (JobTouches honest files (job.Once target)) old new
 leads_file wrote = leads_more wrote (λ start image step. touched_by_file step)
 
 -- The line is said once the file is durable, so a front of it stands in no image in which the file isn't the snapshot.
-pub leads_line : {H : Type 0} {m : HostModel H} {files : ℕ → List ℕ} {target : ℕ} {old middle new : H} (line : List ℕ)
+pub leads_line : {H : Type 0} {m : HostModel H} {honest : Bool} {files : ℕ → List ℕ} {target : ℕ} {old middle new : H} (line : List ℕ)
     → Leads m (MayWrite files target) old middle → IsDurable m middle
     → (IsTrue m.tells → IsToSay files target line (m.contents middle)) → Leads m (SaysPart channels.Out line) middle new
-    → Leads m (JobTouches files (job.Once target)) old new
+    → Leads m (JobTouches honest files (job.Once target)) old new
 leads_line {m = m} {files = files} {target = target} line wrote durable tells said = record {
   contents = λ told. touched_by_line line (wrote.contents told) (tells told) (said.contents told);
   images = goes_on wrote.images said.images (λ start image step. touched_by_file step)
@@ -172,12 +174,12 @@ said_answer (Err error) = Err (of_host error)
 
 -- a device fault or want of memory, behind so many syncs at most
 pub syncs_free : (syncs : ℕ) (why : Refusal) (before behind : ℕ) → NeedsNoCause why → behind ≤ before + syncs
-    → SyncsRun syncs (Err why) before behind
-syncs_free syncs why before behind (inl is) few = subst (λ w. SyncsRun syncs (Err w) before behind) (sym is) few
-syncs_free syncs why before behind (inr is) few = subst (λ w. SyncsRun syncs (Err w) before behind) (sym is) few
+    → SyncsRun (Some syncs) (Err why) before behind
+syncs_free syncs why before behind (inl is) few = subst (λ w. SyncsRun (Some syncs) (Err w) before behind) (sym is) few
+syncs_free syncs why before behind (inr is) few = subst (λ w. SyncsRun (Some syncs) (Err w) before behind) (sym is) few
 
 -- a refusal by a cause, behind one sync
-pub syncs_once : (more : ℕ) (why : Refusal) (before behind : ℕ) → behind ≡ before + 1 → SyncsRun (more + 1) (Err why) before behind
+pub syncs_once : (more : ℕ) (why : Refusal) (before behind : ℕ) → behind ≡ before + 1 → SyncsRun (Some (more + 1)) (Err why) before behind
 syncs_once more (refusal.Params _) before behind one = one
 syncs_once more (refusal.Snapshot _) before behind one = one
 syncs_once more (refusal.TooHeavy _ _) before behind one = one
@@ -238,7 +240,7 @@ free_or_not (refusal.Damaged p) = inr never where
 -- the first sync failed
 pub counts_unsynced : {H T : Type 0} {m : HostModel H} {by : Image → Image → Type 0} {old new : H}
     {result : Result T HostError} {error : HostError} (more : ℕ) → RanSyncing m 1 Fault by old new result → result ≡ Err error
-    → CountsRun m (more + 1) old new (Err (of_host error))
+    → CountsRun m (Some (more + 1)) old new (Err (of_host error))
 counts_unsynced {old = old} {new = new} {error = error} more ran is = record {
   count = ran.count;
   rose = λ err. ran.rose (is ∙ ap Err (by_device error err));
@@ -265,7 +267,7 @@ pub counts_refused : {H S T : Type 0} {m : HostModel H} {one two : Image → Ima
     {first : Result S HostError} {result : Result T Refusal} {why : Refusal} (more : ℕ) → IsOk first
     → RanSyncing m 1 Fault one old middle first → RanSyncing m more refusal.Device two middle new result
     → result ≡ Err why → ((NeedsNoCause why → ⊥) → m.tally new ≡ m.tally middle)
-    → CountsRun m (more + 1) old new (Err why)
+    → CountsRun m (Some (more + 1)) old new (Err why)
 counts_refused {m = m} {old = old} {middle = middle} {new = new} {why = why} more ok before after is unsynced =
     let same = before.spared (ok_is_no_error ok) in
     record {
@@ -287,7 +289,7 @@ counts_refused {m = m} {old = old} {middle = middle} {new = new} {why = why} mor
 pub counts_said : {H T E : Type 0} {m : HostModel H} {fault : E} {by : Image → Image → Type 0} {old middle new : H}
     {result : Result T E} {line : List ℕ} {answer : Result (Unit {0}) HostError} (syncs : ℕ)
     → RanSyncing m syncs fault by old middle result → IsOk result → Spoke m channels.Out line middle new answer
-    → CountsRun m syncs old new (said_answer answer)
+    → CountsRun m (Some syncs) old new (said_answer answer)
 counts_said {m = m} {new = new} {answer = answer} syncs ran ok spoke =
     let spared = ran.spared (ok_is_no_error ok) in
     record {
@@ -311,7 +313,7 @@ counts_said {m = m} {new = new} {answer = answer} syncs ran ok spoke =
       went (Err NoMemory) fine = absurd (search rules)
 
       counted : (answer : Result (Unit {0}) HostError) (before behind : ℕ) → behind ≡ before + syncs
-          → SyncsRun syncs (said_answer answer) before behind
+          → SyncsRun (Some syncs) (said_answer answer) before behind
       counted (Ok tt) before behind all = all
       counted (Err Fault) before behind all = omega (arith, all)
       counted (Err NoMemory) before behind all = omega (arith, all)
@@ -344,8 +346,8 @@ to_show {shown = shown} text same found is =
           is ∙ cc;
     }
 
-shown_by_part : {files : ℕ → List ℕ} {old now : Image} (text : List ℕ) → IsToShow files text → SaysPart channels.Out text old now
-    → JobTouches files job.Show old now
+shown_by_part : {honest : Bool} {files : ℕ → List ℕ} {old now : Image} (text : List ℕ) → IsToShow files text → SaysPart channels.Out text old now
+    → JobTouches honest files job.Show old now
 shown_by_part {old = old} {now = now} text shows part =
     let P : List ℕ → Type 0 = λ t. SaidFrontOf t (old.said channels.Out) (now.said channels.Out) in
     record {
@@ -358,16 +360,16 @@ shown_by_part {old = old} {now = now} text shows part =
     }
 
 -- The text is said behind calls that changed nothing.
-pub leads_shown : {H : Type 0} {m : HostModel H} {files : ℕ → List ℕ} {old middle new : H} (text : List ℕ) → Leads m Stays old middle
+pub leads_shown : {H : Type 0} {m : HostModel H} {honest : Bool} {files : ℕ → List ℕ} {old middle new : H} (text : List ℕ) → Leads m Stays old middle
     → (IsTrue m.tells → IsToShow files text) → Leads m (SaysPart channels.Out text) middle new
-    → Leads m (JobTouches files job.Show) old new
-leads_shown {m = m} {files = files} {middle = middle} {new = new} text stays shows said =
-    let later : Leads m (JobTouches files job.Show) middle new = record {
+    → Leads m (JobTouches honest files job.Show) old new
+leads_shown {m = m} {honest = honest} {files = files} {middle = middle} {new = new} text stays shows said =
+    let later : Leads m (JobTouches honest files job.Show) middle new = record {
       contents = λ told. shown_by_part text (shows told) (said.contents told);
       images = record {
-        follows = λ honest.
-            let shown = shows (m.tells_if_honest honest) in
-            (leads_more {T = JobTouches files job.Show} said (λ before after part. shown_by_part text shown part)).images.follows honest;
+        follows = λ known.
+            let shown = shows (m.tells_if_honest known) in
+            (leads_more {T = JobTouches honest files job.Show} said (λ before after part. shown_by_part text shown part)).images.follows known;
       };
     } in
     leads_before (λ image. record { touches = inl refl; err = refl }) stays later

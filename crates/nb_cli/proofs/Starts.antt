@@ -17,7 +17,9 @@ use Rattle.nb_format.specs.SnapshotRefusal.{snapshot_refusal, IsBySnapshot}
 use Rattle.nb_format.specs.Writer.{IsFinishedAs}
 use Rattle.nb_engine.specs.declared.refusal.Refusal.TheVariants as refusal
 use Rattle.nb_engine.specs.Refusal.{NeedsNoCause, of_snapshot}
-use Rattle.nb_cli.specs.Once.{params_file, init_file, once_file, most_once_bodies, Start, HasStart, list_at, once_refusal, IsRefused}
+use Rattle.nb_engine.specs.Start.{Start, HasStart}
+use Rattle.nb_engine.specs.Files.{params_file, init_file}
+use Rattle.nb_cli.specs.Once.{once_file, most_once_bodies, list_at, once_refusal, IsRefused}
 
 snapshot_refused : {files : ℕ → List ℕ} {target : ℕ} {params : Params} {error : SnapError} → params_of (files params_file) ≡ Ok params
     → snapshot_refusal (files init_file) ≡ Some error → NeedsNoCause (refusal.Snapshot error) ⊎ IsRefused files target (refusal.Snapshot error)

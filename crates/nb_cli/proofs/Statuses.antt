@@ -1,5 +1,5 @@
 -- What the top call's status and files are, from what its run did and how its refusal was told.
-use Rattle.std.proofs.Common.{◌≡◌, ◌≢◌, ◌⊎◌, inl, inr, ℕ, ◌≤◌, List, refl, ap, sym, subst, ◌∙◌, arith, Result, Err, ◌↔◌}
+use Rattle.std.proofs.Common.{◌≡◌, ◌≢◌, ◌⊎◌, inl, inr, ℕ, ◌≤◌, Bool, List, refl, ap, sym, subst, ◌∙◌, arith, Result, Err, ◌↔◌}
 use Rattle.std.specs.Prelude.{Contains}
 use Rattle.nb_host.specs.declared.host.Channel.{Channel}
 use Rattle.nb_host.specs.declared.host.Channel.TheVariants as channels
@@ -10,6 +10,11 @@ use Rattle.nb_host.proofs.Callers.{leads_more, leads_then, leads_before}
 use Rattle.nb_model.specs.Leapfrog.{escaped_count}
 use Rattle.nb_format.specs.Lines.{once_line}
 use Rattle.nb_format.specs.Snapshot.{IsSnapshot}
+use Rattle.nb_journal.specs.Form.{Log, IsJournal}
+use Rattle.nb_journal.specs.Offsets.{journal_file}
+use Rattle.nb_engine.specs.Shown.{IsNotShown}
+use Rattle.nb_engine.specs.Start.{Start, IsStartReady}
+use Rattle.nb_engine.specs.Steps.{SaidFrontOf}
 use Rattle.nb_engine.specs.declared.refusal.Refusal.{Refusal}
 use Rattle.nb_engine.specs.declared.refusal.Refusal.TheVariants as refusal
 use Rattle.nb_cli.specs.declared.stop.Stop.{Stop}
@@ -17,21 +22,33 @@ use Rattle.nb_cli.specs.declared.stop.Stop.TheVariants as stop
 use Rattle.nb_cli.specs.declared.words.Job.{Job}
 use Rattle.nb_cli.specs.declared.words.Job.TheVariants as job
 use Rattle.nb_cli.specs.Words.{IsJob}
-use Rattle.nb_cli.specs.Stop.{status_of, stop_status, stop_line, IsWithoutCause, IsSayable}
+use Rattle.nb_cli.specs.Stop.{status_of, stop_status, IsWithoutCause, IsSayable}
 use Rattle.nb_cli.specs.Once.{once_file, ticks_to, list_at}
 use Rattle.nb_cli.specs.Show.{show_text}
-use Rattle.nb_cli.specs.Answer.{statuses, Yields, ComesWhere, HasCause, HasCauseOf, IsJobReady, IsJobDone, IsJobPartlyDone, SaidFrontOf, IsUntouched, Touches, RunTouches, JobTouches, CountsRun, CountsWords, syncs_of, HasBegun, HasBegunOrNot, JobBegins, WasTold}
-use Rattle.nb_cli.proofs.Causes.{no_cause, one_cause}
+use Rattle.nb_cli.specs.Answer.{statuses, Yields, ComesWhere, ComesByCause, HasCause, HasCauseOf, HasSpoilt, IsSpoiltBy, IsJobReady, IsJobRefused, IsJobDone, IsJobPartlyDone, LeadsThenTells, IsUntouched, IsLeftSo, LeavesAll, Touches, RunTouches, JobTouches, HasBegun, HasBegunOrNot, JobBegins, WasTold}
+use Rattle.nb_cli.proofs.Causes.{IsCause, no_cause, one_cause, one_job, not_gone, not_shown, not_refused_job}
 use Rattle.nb_cli.proofs.Saying.{behind_answer, behind_kept}
 
 -- The run was done.
-abbrev pub HasFinished : List (List ℕ) → Image → Image → Type 0
-HasFinished words old now =
-    (job : Job) × IsJob words job × IsJobDone job old now
+abbrev pub HasFinished : Bool → List (List ℕ) → Image → Image → Type 0
+HasFinished honest words old now =
+    (job : Job) × IsJob words job × IsJobDone honest job old now
+
+-- Why a run isn't done: by a cause, or since a slot is spoilt, or without a cause.
+abbrev pub IsReason : List (List ℕ) → (ℕ → List ℕ) → Stop → Type 0
+IsReason words files why = HasCause words files why ⊎ HasSpoilt words files why ⊎ IsWithoutCause why
+
+-- why a command isn't done, as the program tells it
+pub run_reason : {words : List (List ℕ)} {files : ℕ → List ℕ} (job : Job) {why : Refusal} → IsJob words job
+    → IsCause files job why → IsReason words files (stop.Refused why)
+run_reason job is (inl (inl device)) = inr (inr (inl (ap stop.Refused device)))
+run_reason job is (inl (inr memory)) = inr (inr (inr (ap stop.Refused memory)))
+run_reason job {why = why} is (inr (inl refused)) = inl (inr (job, why, refl, is, refused))
+run_reason job {why = why} is (inr (inr spoilt)) = inr (inl (job, why, refl, is, spoilt))
 
 -- A run that was refused so ended with this status.
 pub record IsRefusal (words : List (List ℕ)) (old : Image) (why : Stop) (result : ℕ) : Type 0 where
-  pub cause : HasCause words old.file why ⊎ IsWithoutCause why
+  pub cause : IsReason words old.file why
   pub answer : (result ≡ stop_status why) ⊎ Yields result
   pub kept : Yields (stop_status why) → result ≡ stop_status why
 
@@ -41,7 +58,7 @@ told_answer {why = why} told =
     subst (λ n. (n ≡ stop_status why) ⊎ Yields n) (sym told.status_is) (behind_answer why told.answer)
 
 pub refusal_told : {H : Type 0} {m : HostModel H} {words : List (List ℕ)} {image : Image} {why : Stop} {old new : H} {status : ℕ}
-    → HasCause words image.file why ⊎ IsWithoutCause why → WasTold m why old new status → IsRefusal words image why status
+    → IsReason words image.file why → WasTold m why old new status → IsRefusal words image why status
 refusal_told {why = why} cause told = record {
   cause = cause;
   answer = told_answer told;
@@ -57,49 +74,61 @@ free_answer : {why : Stop} {result : ℕ} → IsWithoutCause why → (Yields (st
 free_answer free kept = let yields = free_yields free in subst Yields (sym (kept yields)) yields
 
 -- A command that was done could be done.
-job_ready : (old now : Image) (job : Job) → IsJobDone job old now → IsJobReady old.file job
-job_ready old now (job.Once target) done = (done.0, done.1)
-job_ready old now job.Show done = (done.0, done.1)
+job_ready : (honest : Bool) (old now : Image) (job : Job) → IsJobDone honest job old now → IsJobReady old.file job
+job_ready honest old now (job.Start pages) done = (done.done.start, done.done.ready)
+job_ready honest old now (job.Go target pace) done = done.done.could
+job_ready honest old now (job.Resume pace) done = done.done.could
+job_ready honest old now (job.Once target) done = (done.0, done.1)
+job_ready honest old now job.Show done = (done.0, done.1)
 
 -- The run of a finished command met no cause.
-pub finished_no_cause : {words : List (List ℕ)} {old now : Image} {why : Stop} → HasFinished words old now → HasCause words old.file why → ⊥
-finished_no_cause {old = old} {now = now} done cause = no_cause done.0 done.1 (job_ready old now done.0 done.2) cause
+pub finished_no_cause : {honest : Bool} {words : List (List ℕ)} {old now : Image} {why : Stop} → HasFinished honest words old now
+    → HasCause words old.file why → ⊥
+finished_no_cause {honest = honest} {old = old} {now = now} done cause =
+    no_cause done.0 done.1 (job_ready honest old now done.0 done.2) cause
 
-pub finished_where : {words : List (List ℕ)} {old now : Image} {status : ℕ} → HasFinished words old now → status ≢ 0
-    → ComesWhere status 0 (HasCauseOf words old.file status)
+pub finished_where : {honest : Bool} {words : List (List ℕ)} {old now : Image} {status : ℕ} → HasFinished honest words old now
+    → status ≢ 0 → ComesByCause words old.file status 0
 finished_where done other = record { only = λ is. absurd (other (sym is)); always = λ holds. absurd (finished_no_cause done holds.1) }
 
-cause_of-status : {words : List (List ℕ)} {files : ℕ → List ℕ} {why : Stop} {status result : ℕ} → (HasCause words files why ⊎ IsWithoutCause why)
-    → ((result ≡ stop_status why) ⊎ Yields result) → (Yields status → ⊥) → result ≡ status → HasCauseOf words files status
-cause_of-status {why = why} (inl cause) (inl same) steady is = (why, cause, sym same ∙ is)
-cause_of-status (inr free) (inl same) steady is = absurd (steady (subst Yields (sym same ∙ is) (free_yields free)))
+cause_of-status : {words : List (List ℕ)} {files : ℕ → List ℕ} {why : Stop} {status result : ℕ} → IsReason words files why
+    → ((result ≡ stop_status why) ⊎ Yields result) → (Yields status → ⊥) → result ≡ status
+    → HasCauseOf words files status ⊎ IsSpoiltBy words files status
+cause_of-status {why = why} (inl cause) (inl same) steady is = inl (why, cause, sym same ∙ is)
+cause_of-status {why = why} (inr (inl spoilt)) (inl same) steady is = inr (why, spoilt, sym same ∙ is)
+cause_of-status (inr (inr free)) (inl same) steady is = absurd (steady (subst Yields (sym same ∙ is) (free_yields free)))
 cause_of-status cause (inr yields) steady is = absurd (steady (subst Yields is yields))
 
-status_of-cause : {words : List (List ℕ)} {files : ℕ → List ℕ} {why : Stop} {status result : ℕ} → (HasCause words files why ⊎ IsWithoutCause why)
+status_of-cause : {words : List (List ℕ)} {files : ℕ → List ℕ} {why : Stop} {status result : ℕ} → IsReason words files why
     → ((result ≡ stop_status why) ⊎ Yields result) → (Yields (stop_status why) → result ≡ stop_status why) → HasCauseOf words files status
-    → (result ≡ status) ⊎ Yields result
-status_of-cause (inl cause) (inl same) kept holds = inl (same ∙ ap stop_status (one_cause cause holds.1) ∙ holds.2)
-status_of-cause (inl cause) (inr yields) kept holds = inr yields
-status_of-cause (inr free) answer kept holds = inr (free_answer free kept)
+    → (result ≡ status) ⊎ Yields result ⊎ IsSpoiltBy words files result
+status_of-cause {words = words} {files = files} (inl cause) (inl same) kept holds =
+    inl (same ∙ ap stop_status (one_cause {words = words} {files = files} cause holds.1) ∙ holds.2)
+status_of-cause {why = why} (inr (inl spoilt)) (inl same) kept holds = inr (inr (why, spoilt, sym same))
+status_of-cause (inr (inr free)) (inl same) kept holds = inr (inl (free_answer free kept))
+status_of-cause cause (inr yields) kept holds = inr (inl yields)
 
 -- A status comes where its cause holds, and yields.
 pub refused_where : {words : List (List ℕ)} {old : Image} {why : Stop} {status result : ℕ}
-    → IsRefusal words old why result → (Yields status → ⊥) → ComesWhere status result (HasCauseOf words old.file status)
+    → IsRefusal words old why result → (Yields status → ⊥) → ComesByCause words old.file status result
 refused_where refused steady = record {
   only = λ is. cause_of-status refused.cause refused.answer steady is;
   always = λ holds. status_of-cause refused.cause refused.answer refused.kept holds;
 }
 
 complete_by : {words : List (List ℕ)} {files : ℕ → List ℕ} {why : Stop} {result : ℕ} (job : Job)
-    → (HasCause words files why ⊎ IsWithoutCause why) → (Yields (stop_status why) → result ≡ stop_status why) → IsJob words job
-    → IsJobReady files job → Yields result
-complete_by job (inl cause) kept is ready = absurd (no_cause job is ready cause)
-complete_by job (inr free) kept is ready = free_answer free kept
+    → IsReason words files why → ((result ≡ stop_status why) ⊎ Yields result) → (Yields (stop_status why) → result ≡ stop_status why)
+    → IsJob words job → IsJobReady files job → Yields result ⊎ IsSpoiltBy words files result
+complete_by job (inl cause) answer kept is ready = absurd (no_cause job is ready cause)
+complete_by {why = why} job (inr (inl spoilt)) (inl same) kept is ready = inr (why, spoilt, sym same)
+complete_by job (inr (inl spoilt)) (inr yields) kept is ready = inl yields
+complete_by job (inr (inr free)) answer kept is ready = inl (free_answer free kept)
 
--- Where the command can be done the reason is a device fault or want of memory.
+-- Where the command can be done the reason is a device fault or want of memory, or a slot is spoilt.
 pub refused_complete : {words : List (List ℕ)} {old : Image} {why : Stop} {result : ℕ} (job : Job)
-    → IsRefusal words old why result → IsJob words job → IsJobReady old.file job → Yields result
-refused_complete job refused is ready = complete_by job refused.cause refused.kept is ready
+    → IsRefusal words old why result → IsJob words job → IsJobReady old.file job
+    → Yields result ⊎ IsSpoiltBy words old.file result
+refused_complete job refused is ready = complete_by job refused.cause refused.answer refused.kept is ready
 
 -- A refusal's status is none of the first two.
 large_status : (why : Refusal) → 2 ≤ status_of why
@@ -130,16 +159,16 @@ status_in (stop.Refused (refusal.Params _)) result sayable (inl is) = (2, omega 
 status_in (stop.Refused (refusal.Snapshot _)) result sayable (inl is) = (3, omega arith, sym is)
 status_in (stop.Refused (refusal.TooHeavy _ _)) result sayable (inl is) = (4, omega arith, sym is)
 status_in (stop.Refused refusal.NotStarted) result sayable (inl is) = (5, omega arith, sym is)
-status_in (stop.Refused refusal.Started) result sayable (inl is) = absurd sayable
-status_in (stop.Refused (refusal.LegOpen _ _)) result sayable (inl is) = absurd sayable
-status_in (stop.Refused (refusal.TickLimit _)) result sayable (inl is) = (6, omega arith, sym is)
+status_in (stop.Refused refusal.Started) result sayable (inl is) = (6, omega arith, sym is)
+status_in (stop.Refused (refusal.LegOpen _ _)) result sayable (inl is) = (7, omega arith, sym is)
+status_in (stop.Refused (refusal.TickLimit _)) result sayable (inl is) = (8, omega arith, sym is)
 status_in (stop.Refused refusal.InitThere) result sayable (inl is) = absurd sayable
-status_in (stop.Refused (refusal.TooMany _)) result sayable (inl is) = (7, omega arith, sym is)
-status_in (stop.Refused refusal.Device) result sayable (inl is) = (8, omega arith, sym is)
-status_in (stop.Refused (refusal.Damaged _)) result sayable (inl is) = (9, omega arith, sym is)
-status_in (stop.Refused refusal.NoMemory) result sayable (inl is) = (10, omega arith, sym is)
-status_in why result sayable (inr (inl is)) = (8, omega arith, sym is)
-status_in why result sayable (inr (inr is)) = (10, omega arith, sym is)
+status_in (stop.Refused (refusal.TooMany _)) result sayable (inl is) = (9, omega arith, sym is)
+status_in (stop.Refused refusal.Device) result sayable (inl is) = (10, omega arith, sym is)
+status_in (stop.Refused (refusal.Damaged _)) result sayable (inl is) = (11, omega arith, sym is)
+status_in (stop.Refused refusal.NoMemory) result sayable (inl is) = (12, omega arith, sym is)
+status_in why result sayable (inr (inl is)) = (10, omega arith, sym is)
+status_in why result sayable (inr (inr is)) = (12, omega arith, sym is)
 
 steady_words : Yields 1 → ⊥
 steady_words (inl is) = absurd (omega arith)
@@ -169,11 +198,11 @@ words_where {T} {NoCommand} {why} {result} words answer = record {
 
 -- What may have changed.
 
-pub run_touches : {words : List (List ℕ)} {files : ℕ → List ℕ} {job : Job} {old now : Image} → IsJob words job
-    → JobTouches files job old now → RunTouches words files old now
-run_touches {words = words} {files = files} {job = job} {old = old} {now = now} is run =
+pub run_touches : {honest : Bool} {words : List (List ℕ)} {files : ℕ → List ℕ} {job : Job} {old now : Image} → IsJob words job
+    → JobTouches honest files job old now → RunTouches honest words files old now
+run_touches {honest = honest} {words = words} {files = files} {job = job} {old = old} {now = now} is run =
     record { touches = by run.touches; err = run.err } where
-      by : (now ≡ old) ⊎ IsJobPartlyDone files job old now → Touches words files old now
+      by : (now ≡ old) ⊎ IsJobPartlyDone honest files job old now → Touches honest words files old now
       by (inl same) = inl (record {
         files = ap (λ (image : Image). image.file) same;
         out = ap (λ (image : Image). image.said channels.Out) same;
@@ -184,9 +213,26 @@ Err≢Out : ◌≡◌ {A = Channel} channels.Out channels.Err → ⊥
 Err≢Out same = cc
 
 -- what is said on Err behind a command changes nothing else
-partly_told : (files : ℕ → List ℕ) (job : Job) (old : Image) {middle now : Image} {line : List ℕ} → IsJobPartlyDone files job old middle
-    → SaysPart channels.Err line middle now → IsJobPartlyDone files job old now
-partly_told files (job.Once target) old {middle = middle} {now = now} some part =
+then_told : {by : Image → Image → Type 0} {Did : Image → Image → List ℕ → Type 0} {old middle now : Image} {line : List ℕ}
+    → LeadsThenTells by Did old middle → SaysPart channels.Err line middle now → LeadsThenTells by Did old now
+then_told {Did = Did} {old = old} then part =
+    let spared = part.2.others channels.Out Err≢Out in
+    record {
+      between = then.between;
+      leads = then.leads;
+      files = part.2.files ∙ then.files;
+      told = elim then.told [
+        | inl same ↦ inl (spared ∙ same)
+        | inr some ↦ inr (some.0, some.1, (some.2.0, some.2.1, spared ∙ some.2.2))
+      ];
+    }
+
+partly_told : (honest : Bool) (files : ℕ → List ℕ) (job : Job) (old : Image) {middle now : Image} {line : List ℕ}
+    → IsJobPartlyDone honest files job old middle → SaysPart channels.Err line middle now → IsJobPartlyDone honest files job old now
+partly_told honest files (job.Start pages) old some part = then_told some part
+partly_told honest files (job.Go target pace) old some part = then_told some part
+partly_told honest files (job.Resume pace) old some part = then_told some part
+partly_told honest files (job.Once target) old {middle = middle} {now = now} some part =
     let start = some.0 in
     let within = some.2 in
     let spared = part.2.others channels.Out Err≢Out in
@@ -200,7 +246,7 @@ partly_told files (job.Once target) old {middle = middle} {now = now} some part 
         said_last = subst (λ said. Q said now.file) (sym spared) (subst (Q (middle.said channels.Out)) (sym part.2.files) within.said_last);
       },
     )
-partly_told files job.Show old some part =
+partly_told honest files job.Show old some part =
     let P : List ℕ → Type 0 = λ said. SaidFrontOf (show_text some.0) (old.said channels.Out) said in (
       some.0,
       some.1,
@@ -210,24 +256,75 @@ partly_told files job.Show old some part =
       },
     )
 
-touches_told : {words : List (List ℕ)} {files : ℕ → List ℕ} {old middle now : Image} {line : List ℕ} → Touches words files old middle
-    → SaysPart channels.Err line middle now → Touches words files old now
+touches_told : {honest : Bool} {words : List (List ℕ)} {files : ℕ → List ℕ} {old middle now : Image} {line : List ℕ}
+    → Touches honest words files old middle → SaysPart channels.Err line middle now → Touches honest words files old now
 touches_told (inl none) part = inl (record {
   files = part.2.files ∙ none.files;
   out = part.2.others channels.Out Err≢Out ∙ none.out;
 })
-touches_told {files = files} {old = old} (inr some) part = inr (some.0, some.1, partly_told files some.0 old some.2 part)
+touches_told {honest = honest} {files = files} {old = old} (inr some) part =
+    inr (some.0, some.1, partly_told honest files some.0 old some.2 part)
 
-partly_ready : (files : ℕ → List ℕ) (job : Job) (old now : Image) → IsJobPartlyDone files job old now → IsJobReady files job
-partly_ready files (job.Once target) old now some = (some.0, some.1)
-partly_ready files job.Show old now some = (some.0, some.1)
+-- ---- where a cause holds
 
--- Where a cause holds nothing has changed but on Err.
-pub cause_untouched : {words : List (List ℕ)} {old now : Image} {why : Stop} → Touches words old.file old now
-    → HasCause words old.file why → IsUntouched old now
-cause_untouched (inl none) cause = none
-cause_untouched {old = old} {now = now} (inr some) cause =
-    absurd (no_cause some.0 some.1 (partly_ready old.file some.0 old now some.2) cause)
+-- nothing was said, where what is told can't be done
+not_told : {by : Image → Image → Type 0} {Did : Image → Image → List ℕ → Type 0} {old now : Image}
+    (then : LeadsThenTells by Did old now) → ((between : Image) (line : List ℕ) → Did old between line → ⊥)
+    → now.said channels.Out ≡ then.between.said channels.Out
+not_told then never = elim then.told [
+  | inl same ↦ same
+  | inr some ↦ absurd (never then.between some.0 some.1)
+]
+
+untouched_by : {by : Image → Image → Type 0} {Did : Image → Image → List ℕ → Type 0} {old now : Image}
+    (then : LeadsThenTells by Did old now) → ((between : Image) (line : List ℕ) → Did old between line → ⊥) → then.between ≡ old
+    → IsUntouched old now
+untouched_by then never same = record {
+  files = then.files ∙ ap (λ (image : Image). image.file) same;
+  out = not_told then never ∙ ap (λ (image : Image). image.said channels.Out) same;
+}
+
+-- a session that needs a journal
+no_journal : (old : Image) {why : Refusal} → IsNotShown (old.file journal_file) why → (log : Log)
+    → IsJournal log (old.file journal_file) → ⊥
+no_journal old none log journal = not_shown log journal none
+
+left_so : (honest : Bool) (job : Job) (old now : Image) (why : Refusal) → IsJobPartlyDone honest old.file job old now
+    → IsJobRefused old.file job why → IsLeftSo job old now
+left_so honest (job.Start pages) old now why then refused =
+    let never = λ (start : Start) (ready : IsStartReady old.file start). not_refused_job old.file (job.Start pages) why (start, ready) refused in
+    untouched_by then (λ between line did. never did.start did.ready) (then.leads.idle never)
+left_so honest (job.Go target pace) old now why then (inl none) =
+    inl (untouched_by then (λ between line did. not_gone old.file target did.could (inl none)) (then.leads.session.idle (no_journal old none)))
+left_so honest (job.Go target pace) old now why then (inr none) =
+    let agrees = then.leads.refused none.0 why none.1 none.2 in
+    inr (
+      none.0,
+      none.1,
+      record {
+        others = λ number spared. ap (λ (f : ℕ → List ℕ). f number) then.files ∙ agrees.others number spared;
+        out = not_told then (λ between line did. not_gone old.file target did.could (inr none)) ∙ ap (λ (f : Channel → List ℕ). f channels.Out) agrees.said;
+      },
+    )
+left_so honest (job.Resume pace) old now why then none =
+    untouched_by then (λ between line did. no_journal old none did.could.0 did.could.1) (then.leads.session.idle (no_journal old none))
+left_so honest (job.Once target) old now why some refused =
+    absurd (not_refused_job old.file (job.Once target) why (some.0, some.1) refused)
+left_so honest job.Show old now why some refused =
+    absurd (not_refused_job old.file job.Show why (some.0, some.1) refused)
+
+-- Where a cause holds nothing has changed but on Err, and but for the snapshot that was due.
+pub cause_untouched : {honest : Bool} {words : List (List ℕ)} {old now : Image} {why : Stop} → Touches honest words old.file old now
+    → HasCause words old.file why → LeavesAll words old now
+cause_untouched (inl none) cause = inl none
+cause_untouched (inr some) (inl none) = absurd (none.1 some.0 some.1)
+cause_untouched {honest = honest} {words = words} {old = old} {now = now} (inr some) (inr cause) =
+    inr (
+      some.0,
+      some.1,
+      left_so honest some.0 old now cause.1 some.2
+          (subst (λ (j : Job). IsJobRefused old.file j cause.1) (one_job words cause.0 some.0 cause.3 some.1) cause.4),
+    )
 
 -- What a run of a command is to the program.
 pub begins_run : {H : Type 0} {m : HostModel H} {words : List (List ℕ)} {job : Job} {old new : H} → IsJob words job
@@ -244,7 +341,8 @@ pub begins_or_not : {H : Type 0} {m : HostModel H} {words : List (List ℕ)} {jo
 begins_or_not is (inl none) = inl none
 begins_or_not is (inr begun) = inr (begins_run is begun)
 
-nothing_touched : {words : List (List ℕ)} {files : ℕ → List ℕ} {old now : Image} → now ≡ old → RunTouches words files old now
+nothing_touched : {honest : Bool} {words : List (List ℕ)} {files : ℕ → List ℕ} {old now : Image} → now ≡ old
+    → RunTouches honest words files old now
 nothing_touched same = record {
   touches = inl (record {
     files = ap (λ (image : Image). image.file) same;
@@ -255,16 +353,17 @@ nothing_touched same = record {
 
 -- whatever it was, where it led
 pub run_leads : {H : Type 0} {m : HostModel H} {words : List (List ℕ)} {old new : H} → HasBegunOrNot m words old new
-    → Leads m (RunTouches words (m.contents old).file) old new
+    → Leads m (RunTouches m.crashes.is_honest words (m.contents old).file) old new
 run_leads (inl none) = leads_more none (λ start image same. nothing_touched same)
 run_leads (inr begun) = leads_before (λ image. nothing_touched refl) begun.before begun.since
 
-pub leads_run : {H : Type 0} {m : HostModel H} {words : List (List ℕ)} {files : ℕ → List ℕ} {old new : H}
-    → Leads m (RunTouches words files) old new → Leads m (Touches words files) old new
+pub leads_run : {H : Type 0} {m : HostModel H} {honest : Bool} {words : List (List ℕ)} {files : ℕ → List ℕ} {old new : H}
+    → Leads m (RunTouches honest words files) old new → Leads m (Touches honest words files) old new
 leads_run run = leads_more run (λ start image step. step.touches)
 
-pub leads_told : {H : Type 0} {m : HostModel H} {words : List (List ℕ)} {files : ℕ → List ℕ} {why : Stop} {old middle new : H} {status : ℕ}
-    → Leads m (RunTouches words files) old middle → WasTold m why middle new status → Leads m (Touches words files) old new
-leads_told run told =
+pub leads_told : {H : Type 0} {m : HostModel H} {honest : Bool} {words : List (List ℕ)} {files : ℕ → List ℕ} {why : Stop}
+    {old middle new : H} {status : ℕ} → Leads m (RunTouches honest words files) old middle → WasTold m why middle new status
+    → Leads m (Touches honest words files) old new
+leads_told {honest = honest} {words = words} {files = files} run told =
     leads_then run told.spoke.leads (λ start image step. step.touches)
-    (λ start between image step part. touches_told step.touches part)
+    (λ start between image step part. touches_told {honest = honest} {words = words} {files = files} step.touches part)

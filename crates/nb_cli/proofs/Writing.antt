@@ -1,5 +1,5 @@
 -- What a snapshot writer has taken so far.
-use Rattle.std.proofs.Common.{◌≡◌, ℕ, List, [], ◌∷◌, ◌++◌, length, length-append, sym, ap, subst, ◌∙◌, arith, IsTrue, Bool}
+use Rattle.std.proofs.Common.{◌≡◌, ℕ, List, [], ◌∷◌, ◌++◌, length, length-append, sym, subst, ◌∙◌, arith, IsTrue, Bool}
 use Rattle.nb_model.specs.declared.body.Body.{Body}
 use Rattle.nb_host.specs.Image.{Image, FileBecomes}
 use Rattle.nb_host.specs.Meaning.{HostModel, Leads}

@@ -1,31 +1,39 @@
 -- What the program's one call answers.
-use Rattle.std.specs.Prelude.{◌≡◌, ◌≢◌, ◌⊎◌, ℕ, ◌+◌, ◌≤◌, IsTrue, IsOk, Result, Ok, Err, List, [], ◌∷◌, ◌++◌, length, take}
+use Rattle.std.specs.Prelude.{◌≡◌, ◌≢◌, ◌⊎◌, ⊤, ℕ, ◌+◌, ◌^◌, ◌<◌, ◌≤◌, Bool, IsTrue, IsOk, Option, None, Some, Result, Ok, Err, List, [], ◌∷◌, ◌++◌, length, Contains}
 use Rattle.nb_model.specs.Leapfrog.{escaped_count}
 use Rattle.nb_host.specs.declared.host.Channel.TheVariants as channels
 use Rattle.nb_host.specs.declared.host.HostError.{HostError}
 use Rattle.nb_host.specs.Crashes.{Stays}
 use Rattle.nb_host.specs.Image.{Image}
 use Rattle.nb_host.specs.Meaning.{HostModel, Leads, Spoke, Stopped, IsDurable}
-use Rattle.nb_format.specs.Lines.{once_line}
+use Rattle.nb_format.specs.Lines.{started_line, done_line, once_line}
 use Rattle.nb_format.specs.Snapshot.{IsSnapshot}
-use Rattle.nb_journal.specs.Form.{Log, IsJournal}
+use Rattle.nb_journal.specs.Form.{Log, IsJournal, progress_of}
 use Rattle.nb_journal.specs.Offsets.{journal_file}
 use Rattle.nb_engine.specs.declared.refusal.Refusal.{Refusal}
 use Rattle.nb_engine.specs.declared.refusal.Refusal.TheVariants as refusal
+use Rattle.nb_engine.specs.declared.going.Done.{Done}
+use Rattle.nb_engine.specs.Acknowledged.{IsToldUpTo}
+use Rattle.nb_engine.specs.Histories.{History, IsHistory}
 use Rattle.nb_engine.specs.Refusal.{of_host}
+use Rattle.nb_engine.specs.Represents.{RepresentsHistory}
+use Rattle.nb_engine.specs.Sessions.{ticks_left, aimed_at, ticks_to, IsLed, GoLeads, ResumeLeads, IsGoRefused, CanGo, CanResume, IsSlotSpoilt}
 use Rattle.nb_engine.specs.Shown.{IsNotShown}
+use Rattle.nb_engine.specs.Steps.{SaidFrontOf}
 use Rattle.nb_cli.specs.declared.stop.Stop.{Stop}
 use Rattle.nb_cli.specs.declared.stop.Stop.TheVariants as stop
 use Rattle.nb_cli.specs.declared.words.Job.{Job}
 use Rattle.nb_cli.specs.declared.words.Job.TheVariants as job
 use Rattle.nb_cli.specs.Words.{IsJob, IsNoCommand}
 use Rattle.nb_cli.specs.Stop.{stop_status, stop_line, IsWithoutCause}
-use Rattle.nb_cli.specs.Once.{once_file, Start, ticks_to, list_at, IsReady, IsRefused}
+use Rattle.nb_engine.specs.Snapshots.{snapshot_files}
+use Rattle.nb_engine.specs.Start.{Start, IsStartReady, IsStartRefused, started, StartLeads}
+use Rattle.nb_cli.specs.Once.{once_file, ticks_to as ticks_from, list_at, IsReady, IsRefused}
 use Rattle.nb_cli.specs.Show.{show_text}
 
 -- the statuses of the program: 0 where the command was done, 1 where the words are none, and those of the refusals
 abbrev pub statuses : List ℕ
-statuses = 0 ∷ 1 ∷ 2 ∷ 3 ∷ 4 ∷ 5 ∷ 8 ∷ 10 ∷ 11 ∷ 12 ∷ 13 ∷ []
+statuses = 0 ∷ 1 ∷ 2 ∷ 3 ∷ 4 ∷ 5 ∷ 6 ∷ 7 ∷ 8 ∷ 10 ∷ 11 ∷ 12 ∷ 13 ∷ []
 
 -- The status is one of the two to which each status that has a cause yields: that of a fault of the device, 11, and that of
 -- want of memory, 13.
@@ -37,15 +45,28 @@ pub record ComesWhere (expected status : ℕ) (Cause : Type 0) : Type 0 where
   pub only : status ≡ expected → Cause
   pub always : Cause → (status ≡ expected) ⊎ Yields status
 
--- A command can be done, by what the files hold: `once` from a start, and `show` of a journal.
+-- A command can be done, by what the files hold: `start` where none was done and the files spell a start, `go` and `resume` by
+-- the journal, `once` from a start, and `show` of a journal.
 abbrev pub IsJobReady : (ℕ → List ℕ) → Job → Type 0
+IsJobReady files (job.Start pages) = (start : Start) × IsStartReady files start
+IsJobReady files (job.Go target pace) = CanGo target files
+IsJobReady files (job.Resume pace) = CanResume files
 IsJobReady files (job.Once target) = (start : Start) × IsReady files target start
 IsJobReady files job.Show = (log : Log) × IsJournal log (files journal_file)
 
 -- The cause for which a command refuses by what its files hold.
 abbrev pub IsJobRefused : (ℕ → List ℕ) → Job → Refusal → Type 0
+IsJobRefused files (job.Start pages) why = IsStartRefused files why
+IsJobRefused files (job.Go target pace) why = IsGoRefused target files why
+IsJobRefused files (job.Resume pace) why = IsNotShown (files journal_file) why
 IsJobRefused files (job.Once target) why = IsRefused files target why
 IsJobRefused files job.Show why = IsNotShown (files journal_file) why
+
+-- Why a command that can be done may still refuse, by what its files hold: the slot of the last tick is spoilt.
+abbrev pub IsJobSpoilt : (ℕ → List ℕ) → Job → Refusal → Type 0
+IsJobSpoilt files (job.Go target pace) why = IsSlotSpoilt files why
+IsJobSpoilt files (job.Resume pace) why = IsSlotSpoilt files why
+IsJobSpoilt files _ why = ⊥
 
 -- The cause for which the program isn't done, by what the words are and what the files hold. At most one holds.
 abbrev pub HasCause : List (List ℕ) → (ℕ → List ℕ) → Stop → Type 0
@@ -57,22 +78,32 @@ HasCause words files why =
 abbrev pub HasCauseOf : List (List ℕ) → (ℕ → List ℕ) → ℕ → Type 0
 HasCauseOf words files status = (why : Stop) × HasCause words files why × (stop_status why ≡ status)
 
+-- The program isn't done, since a slot is spoilt.
+abbrev pub HasSpoilt : List (List ℕ) → (ℕ → List ℕ) → Stop → Type 0
+HasSpoilt words files why =
+    (job : Job) × (refusal : Refusal) × (why ≡ stop.Refused refusal) × IsJob words job × IsJobSpoilt files job refusal
+
+-- A spoilt slot gives this status.
+abbrev pub IsSpoiltBy : List (List ℕ) → (ℕ → List ℕ) → ℕ → Type 0
+IsSpoiltBy words files status = (why : Stop) × HasSpoilt words files why × (stop_status why ≡ status)
+
+-- The status comes where its cause holds, unless a slot is spoilt, and only where it does or a slot is.
+pub record ComesByCause (words : List (List ℕ)) (files : ℕ → List ℕ) (expected status : ℕ) : Type 0 where
+  pub only : status ≡ expected → HasCauseOf words files expected ⊎ IsSpoiltBy words files expected
+  pub always : HasCauseOf words files expected → (status ≡ expected) ⊎ Yields status ⊎ IsSpoiltBy words files status
+
 -- `once` is done: its file is the snapshot of the list at the target, its line was said, and nothing else changed.
 pub record IsDone (target : ℕ) (start : Start) (old new : Image) : Type 0 where
   pub snapshot : IsSnapshot (new.file once_file) (list_at target start) target
   pub others : (number : ℕ) → number ≢ once_file → new.file number ≡ old.file number
-  pub out : new.said channels.Out ≡ old.said channels.Out ++ once_line target (ticks_to target start) (escaped_count (list_at target start))
+  pub out : new.said channels.Out ≡ old.said channels.Out ++ once_line target (ticks_from target start) (escaped_count (list_at target start))
   pub err : new.said channels.Err ≡ old.said channels.Err
-
--- The bytes said on a channel are those of before and a front of this text.
-abbrev pub SaidFrontOf : List ℕ → List ℕ → List ℕ → Type 0
-SaidFrontOf text old new = (n : ℕ) × (n ≤ length text) × (new ≡ old ++ take n text)
 
 -- What `once` may have changed at some moment, done or not: its own file, and a front of its line on Out, of which nothing
 -- is said before the file is the snapshot.
 pub record IsPartlyDone (target : ℕ) (start : Start) (old new : Image) : Type 0 where
   pub others : (number : ℕ) → number ≢ once_file → new.file number ≡ old.file number
-  pub out : SaidFrontOf (once_line target (ticks_to target start) (escaped_count (list_at target start))) (old.said channels.Out) (new.said channels.Out)
+  pub out : SaidFrontOf (once_line target (ticks_from target start) (escaped_count (list_at target start))) (old.said channels.Out) (new.said channels.Out)
   pub said_last : (new.said channels.Out ≡ old.said channels.Out) ⊎ IsSnapshot (new.file once_file) (list_at target start) target
 
 -- `show` is done: the journal's text was said, and nothing else changed.
@@ -86,34 +117,109 @@ pub record IsPartlyShown (log : Log) (old new : Image) : Type 0 where
   pub files : new.file ≡ old.file
   pub out : SaidFrontOf (show_text log) (old.said channels.Out) (new.said channels.Out)
 
--- A command is done.
-abbrev pub IsJobDone : Job → Image → Image → Type 0
-IsJobDone (job.Once target) old new = (start : Start) × IsReady old.file target start × IsDone target start old new
-IsJobDone job.Show old new = (log : Log) × IsJournal log (old.file journal_file) × IsShown log old new
+-- ---- the sessions of a run
 
--- What a command that can be done, where the files were these, may have changed at some moment, done or not.
-abbrev pub IsJobPartlyDone : (ℕ → List ℕ) → Job → Image → Image → Type 0
-IsJobPartlyDone files (job.Once target) old new = (start : Start) × IsReady files target start × IsPartlyDone target start old new
-IsJobPartlyDone files job.Show old new = (log : Log) × IsJournal log (files journal_file) × IsPartlyShown log old new
+-- `start` is done: the folder represents the run that it starts, if no tick was acknowledged before, and this is its line.
+pub record HasStarted (old new : Image) (line : List ℕ) : Type 0 where
+  pub start : Start
+  pub ready : IsStartReady old.file start
+  pub represents : IsToldUpTo 0 (old.said channels.Out) → RepresentsHistory (started start) new
+  pub line_is : line ≡ started_line (length start.bodies) start.time
+
+-- numbers of 64 bits, as in every answer
+pub record IsInWords (done : Done) : Type 0 where
+  pub time : done.time < 2 ^ 64
+  pub ticks : done.ticks < 2 ^ 64
+  pub gone : done.gone < 2 ^ 64
+
+-- `go` is done: what the folder represented was led to the target, and this is its line.
+pub record HasGone (target : ℕ) (old new : Image) (line : List ℕ) : Type 0 where
+  pub done : Done
+  pub fits : IsInWords done
+  pub could : CanGo target old.file
+  pub led : (h : History) → IsHistory h → RepresentsHistory h old → IsLed (ticks_to target h) (aimed_at target h) old done new
+  pub line_is : line ≡ done_line done.time done.ticks done.gone
+
+-- `resume` is done: what the folder represented was led to the end of its last leg, and this is its line.
+pub record HasResumed (old new : Image) (line : List ℕ) : Type 0 where
+  pub done : Done
+  pub fits : IsInWords done
+  pub could : CanResume old.file
+  pub led : (h : History) → IsHistory h → RepresentsHistory h old → IsLed (ticks_left (progress_of h.log)) h old done new
+  pub line_is : line ≡ done_line done.time done.ticks done.gone
+
+-- Calls led so, and this is done; then its line was said.
+pub record IsDoneThenTold (by : Image → Image → Type 0) (Did : Image → Image → List ℕ → Type 0) (old new : Image) : Type 0 where
+  pub between : Image
+  pub leads : by old between
+  pub line : List ℕ
+  pub done : Did old between line
+  pub files : new.file ≡ between.file
+  pub out : new.said channels.Out ≡ between.said channels.Out ++ line
+  pub err : new.said channels.Err ≡ between.said channels.Err
+
+-- Calls lead so, done or not; and a front of a line is said only behind what is done, which it tells.
+pub record LeadsThenTells (by : Image → Image → Type 0) (Did : Image → Image → List ℕ → Type 0) (old new : Image) : Type 0 where
+  pub between : Image
+  pub leads : by old between
+  pub files : new.file ≡ between.file
+  pub told : (new.said channels.Out ≡ between.said channels.Out)
+      ⊎ ((line : List ℕ) × Did old between line
+      × SaidFrontOf line (between.said channels.Out) (new.said channels.Out))
+
+-- ---- all commands
+
+-- A command is done. What `start`, `go` and `resume` may change is said of an honest host in full.
+abbrev pub IsJobDone : Bool → Job → Image → Image → Type 0
+IsJobDone honest (job.Start pages) old new = IsDoneThenTold (StartLeads honest) HasStarted old new
+IsJobDone honest (job.Go target pace) old new = IsDoneThenTold (GoLeads honest target) (HasGone target) old new
+IsJobDone honest (job.Resume pace) old new = IsDoneThenTold (ResumeLeads honest) HasResumed old new
+IsJobDone honest (job.Once target) old new = (start : Start) × IsReady old.file target start × IsDone target start old new
+IsJobDone honest job.Show old new = (log : Log) × IsJournal log (old.file journal_file) × IsShown log old new
+
+-- What a command, where the files were these, may have changed at some moment, done or not.
+abbrev pub IsJobPartlyDone : Bool → (ℕ → List ℕ) → Job → Image → Image → Type 0
+IsJobPartlyDone honest files (job.Start pages) old new = LeadsThenTells (StartLeads honest) HasStarted old new
+IsJobPartlyDone honest files (job.Go target pace) old new = LeadsThenTells (GoLeads honest target) (HasGone target) old new
+IsJobPartlyDone honest files (job.Resume pace) old new = LeadsThenTells (ResumeLeads honest) HasResumed old new
+IsJobPartlyDone honest files (job.Once target) old new = (start : Start) × IsReady files target start × IsPartlyDone target start old new
+IsJobPartlyDone honest files job.Show old new = (log : Log) × IsJournal log (files journal_file) × IsPartlyShown log old new
 
 -- Nothing changed but what was said on Err.
 pub record IsUntouched (old new : Image) : Type 0 where
   pub files : new.file ≡ old.file
   pub out : new.said channels.Out ≡ old.said channels.Out
 
+-- No file changed but these, and nothing was said on Out.
+pub record KeepsAllBut (files : List ℕ) (old new : Image) : Type 0 where
+  pub others : (number : ℕ) → (Contains files number → ⊥) → new.file number ≡ old.file number
+  pub out : new.said channels.Out ≡ old.said channels.Out
+
+-- What a refusal by a cause leaves: all as it was; but `go` may have finished the snapshot that was due.
+abbrev pub IsLeftSo : Job → Image → Image → Type 0
+IsLeftSo (job.Go target pace) old new =
+    IsUntouched old new
+    ⊎ ((log : Log) × IsJournal log (old.file journal_file) × KeepsAllBut (snapshot_files (progress_of log).ticks) old new)
+IsLeftSo _ old new = IsUntouched old new
+
+-- The same of the program: where the words are none nothing was done.
+abbrev pub LeavesAll : List (List ℕ) → Image → Image → Type 0
+LeavesAll words old new = IsUntouched old new ⊎ ((job : Job) × IsJob words job × IsLeftSo job old new)
+
 -- What the program may have changed at some moment, where its words and the files were these: nothing, or what the command
--- may where it can be done.
-abbrev pub Touches : List (List ℕ) → (ℕ → List ℕ) → Image → Image → Type 0
-Touches words files old new = IsUntouched old new ⊎ ((job : Job) × IsJob words job × IsJobPartlyDone files job old new)
+-- may.
+abbrev pub Touches : Bool → List (List ℕ) → (ℕ → List ℕ) → Image → Image → Type 0
+Touches honest words files old new =
+    IsUntouched old new ⊎ ((job : Job) × IsJob words job × IsJobPartlyDone honest files job old new)
 
 -- What a run of a command may have changed at some moment, where the files were these. It says nothing on Err.
-pub record JobTouches (files : ℕ → List ℕ) (job : Job) (old new : Image) : Type 0 where
-  pub touches : (new ≡ old) ⊎ IsJobPartlyDone files job old new
+pub record JobTouches (honest : Bool) (files : ℕ → List ℕ) (job : Job) (old new : Image) : Type 0 where
+  pub touches : (new ≡ old) ⊎ IsJobPartlyDone honest files job old new
   pub err : new.said channels.Err ≡ old.said channels.Err
 
 -- What a run may have changed at some moment. It says nothing on Err.
-pub record RunTouches (words : List (List ℕ)) (files : ℕ → List ℕ) (old new : Image) : Type 0 where
-  pub touches : Touches words files old new
+pub record RunTouches (honest : Bool) (words : List (List ℕ)) (files : ℕ → List ℕ) (old new : Image) : Type 0 where
+  pub touches : Touches honest words files old new
   pub err : new.said channels.Err ≡ old.said channels.Err
 
 -- How often `once` syncs, where it is done: behind the cut of its file, and twice each for the snapshot's begin and end.
@@ -121,22 +227,27 @@ abbrev pub once_syncs : ℕ
 once_syncs = 5
 
 -- How often the program syncs where a command is done: once before it, so that what it reads is durable, and as often as
--- the command does.
-abbrev pub syncs_of : Job → ℕ
-syncs_of (job.Once _) = once_syncs + 1
-syncs_of job.Show = 1
+-- the command does. Of `start`, `go` and `resume` it isn't said: what each of their syncs is for stands in what a crash may
+-- leave.
+abbrev pub syncs_of : Job → Option ℕ
+syncs_of (job.Start _) = None
+syncs_of (job.Go _ _) = None
+syncs_of (job.Resume _) = None
+syncs_of (job.Once _) = Some (once_syncs + 1)
+syncs_of job.Show = Some 1
 
 -- How often a run syncs that ends so, before and behind, by how often it does where it is done: the first sync alone where
 -- it can't be done, and at most all where the device failed or memory is wanting.
-abbrev pub SyncsRun : ℕ → Result (Unit {0}) Refusal → ℕ → ℕ → Type 0
-SyncsRun syncs (Ok _) before behind = behind ≡ before + syncs
-SyncsRun syncs (Err refusal.Device) before behind = behind ≤ before + syncs
-SyncsRun syncs (Err refusal.NoMemory) before behind = behind ≤ before + syncs
-SyncsRun syncs (Err why) before behind = behind ≡ before + 1
+abbrev pub SyncsRun : Option ℕ → Result (Unit {0}) Refusal → ℕ → ℕ → Type 0
+SyncsRun None result before behind = ⊤
+SyncsRun (Some syncs) (Ok _) before behind = behind ≡ before + syncs
+SyncsRun (Some syncs) (Err refusal.Device) before behind = behind ≤ before + syncs
+SyncsRun (Some syncs) (Err refusal.NoMemory) before behind = behind ≤ before + syncs
+SyncsRun (Some syncs) (Err why) before behind = behind ≡ before + 1
 
 -- What a run owes to the counts. Device stands for a fault: it comes where the run came to an end at one, and every other
 -- answer where there was none. No say on Err was refused, and where it is done none at all.
-pub record CountsRun {H : Type 0} (m : HostModel H) (all : ℕ) (old new : H) (result : Result (Unit {0}) Refusal) : Type 0 where
+pub record CountsRun {H : Type 0} (m : HostModel H) (all : Option ℕ) (old new : H) (result : Result (Unit {0}) Refusal) : Type 0 where
   pub count : m.faults old ≤ m.faults new
   pub rose : result ≡ Err refusal.Device → Stopped m old new
   pub spared : result ≢ Err refusal.Device → m.faults new ≡ m.faults old
@@ -158,14 +269,14 @@ pub record HasBegun {H : Type 0} (m : HostModel H) (words : List (List ℕ)) (ol
   pub synced : H
   pub before : Leads m Stays old synced
   pub durable : IsDurable m synced
-  pub since : Leads m (RunTouches words (m.contents old).file) synced new
+  pub since : Leads m (RunTouches m.crashes.is_honest words (m.contents old).file) synced new
 
 -- The same of a run of a command.
 pub record JobBegins {H : Type 0} (m : HostModel H) (job : Job) (old new : H) : Type 0 where
   pub synced : H
   pub before : Leads m Stays old synced
   pub durable : IsDurable m synced
-  pub since : Leads m (JobTouches (m.contents old).file job) synced new
+  pub since : Leads m (JobTouches m.crashes.is_honest (m.contents old).file job) synced new
 
 -- It did, or nothing was done at all.
 abbrev pub HasBegunOrNot : {H : Type 0} → HostModel H → List (List ℕ) → H → H → Type 0
@@ -173,7 +284,7 @@ HasBegunOrNot m words old new = Leads m Stays old new ⊎ HasBegun m words old n
 
 -- The command was done: what it did is durable, and no fault was met.
 pub record HasDone {H : Type 0} (m : HostModel H) (words : List (List ℕ)) (old new : H) : Type 0 where
-  pub done : IsTrue m.tells → (job : Job) × IsJob words job × IsJobDone job (m.contents old) (m.contents new)
+  pub done : IsTrue m.tells → (job : Job) × IsJob words job × IsJobDone m.crashes.is_honest job (m.contents old) (m.contents new)
   pub durable : IsDurable m new
   pub begun : HasBegun m words old new
   pub counts : CountsWords m words old new (Ok tt)
@@ -196,7 +307,7 @@ pub record WasTold {H : Type 0} (m : HostModel H) (why : Stop) (old new : H) (st
 pub record WasRefused {H : Type 0} (m : HostModel H) (words : List (List ℕ)) (old new : H) (status : ℕ) : Type 0 where
   pub why : Stop
   pub ended : H
-  pub cause : IsTrue m.tells → HasCause words (m.contents old).file why ⊎ IsWithoutCause why
+  pub cause : IsTrue m.tells → HasCause words (m.contents old).file why ⊎ HasSpoilt words (m.contents old).file why ⊎ IsWithoutCause why
   pub run : HasBegunOrNot m words old ended
   pub counts : CountsWords m words old ended (Err why)
   pub told : WasTold m why ended new status

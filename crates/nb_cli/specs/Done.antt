@@ -3,7 +3,8 @@ use Rattle.std.specs.Prelude.{◌≡◌, ◌⊎◌, ℕ, List, ⊤}
 use Rattle.nb_model.specs.Leapfrog.{escaped_count}
 use Rattle.nb_cli.specs.declared.once_command.Done.{Done}
 use Rattle.nb_host.specs.Image.{Image, FileBecomes}
-use Rattle.nb_cli.specs.Once.{once_file, Start, ticks_to, list_at, IsReady}
+use Rattle.nb_engine.specs.Start.{Start}
+use Rattle.nb_cli.specs.Once.{once_file, ticks_to, list_at, IsReady}
 
 -- The answer tells the target, the ticks from the start to it, and how many bodies have left the box there.
 pub record TellsOf (target : ℕ) (start : Start) (done : Done) : Type 0 where

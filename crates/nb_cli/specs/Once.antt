@@ -1,27 +1,16 @@
 -- The command `once`: which files it takes, what it makes of them, and when it refuses.
-use Rattle.std.specs.Prelude.{◌≡◌, ◌⊎◌, ℕ, ◌+◌, ◌-◌, ◌*◌, nat_le, nat_lt, if◌then◌else◌, Option, None, Some, Ok, Err, List, length}
+use Rattle.std.specs.Prelude.{◌≡◌, ◌⊎◌, ℕ, ◌+◌, ◌-◌, nat_lt, if◌then◌else◌, Option, None, Some, List, length}
 use Rattle.std.specs.Option.{option_or}
 use Rattle.nb_model.specs.declared.body.Body.{Body}
 use Rattle.nb_model.specs.declared.params.Params.{Params}
-use Rattle.nb_model.specs.Limits.{gm_limit, most_ticks}
-use Rattle.nb_model.specs.Octree.{total_mass}
+use Rattle.nb_model.specs.Limits.{most_ticks}
 use Rattle.nb_model.specs.Leapfrog.{steps}
 use Rattle.nb_model.specs.Legs.{directions_to}
 use Rattle.nb_format.specs.declared.params_error.ParamsError.{ParamsError}
 use Rattle.nb_format.specs.declared.snap_error.SnapError.{SnapError}
-use Rattle.nb_format.specs.ParamsText.{params_of}
-use Rattle.nb_format.specs.Snapshot.{IsSnapshot}
-use Rattle.nb_format.specs.SnapshotRefusal.{snapshot_refusal}
 use Rattle.nb_engine.specs.declared.refusal.Refusal.{Refusal}
 use Rattle.nb_engine.specs.declared.refusal.Refusal.TheVariants as refusal
-
--- the number of the file `params`
-abbrev pub params_file : ℕ
-params_file = 0
-
--- the number of the file `init.nbs`
-abbrev pub init_file : ℕ
-init_file = 1
+use Rattle.nb_engine.specs.Start.{Start, HasStart, start_refusal, HasNoParams, HasNoSnapshot}
 
 -- the number of the file `once.nbs`
 abbrev pub once_file : ℕ
@@ -31,17 +20,6 @@ once_file = 8
 abbrev pub most_once_bodies : ℕ
 most_once_bodies = 4096
 
--- what a run begins with: its parameters, and the bodies at a time
-pub record Start : Type 0 where
-  pub params : Params
-  pub bodies : List Body
-  pub time : ℕ
-
--- The parameter text and the initial snapshot spell this start.
-pub record HasStart (files : ℕ → List ℕ) (start : Start) : Type 0 where
-  pub parameters : params_of (files params_file) ≡ Ok start.params
-  pub snapshot : IsSnapshot (files init_file) start.bodies start.time
-
 -- the ticks from the start to the target, forward or back
 abbrev pub ticks_to : ℕ → Start → ℕ
 ticks_to target start = (target - start.time) + (start.time - target)
@@ -49,11 +27,6 @@ ticks_to target start = (target - start.time) + (start.time - target)
 -- the list at the target
 abbrev pub list_at : ℕ → Start → List Body
 list_at target start = steps start.params (directions_to start.time target) start.bodies
-
--- the refusal of bodies with which no run can begin: the constant of gravity times their mass is too great
-abbrev pub start_refusal : Params → List Body → Option Refusal
-start_refusal params bodies =
-    if nat_le gm_limit (params.grav * total_mass bodies) then Some (refusal.TooHeavy params.grav (total_mass bodies)) else None
 
 -- the refusal of a start that `once` doesn't take to the target: of too many bodies, of bodies with which no run can begin,
 -- and of a target that is too far away, in this order
@@ -67,15 +40,6 @@ once_refusal target start =
 pub record IsReady (files : ℕ → List ℕ) (target : ℕ) (start : Start) : Type 0 where
   pub starts : HasStart files start
   pub takes : once_refusal target start ≡ None
-
--- It can't, since the parameter text is none.
-pub record HasNoParams (files : ℕ → List ℕ) (error : ParamsError) : Type 0 where
-  pub refused : params_of (files params_file) ≡ Err error
-
--- It can't, since the initial snapshot is none.
-pub record HasNoSnapshot (files : ℕ → List ℕ) (params : Params) (error : SnapError) : Type 0 where
-  pub parameters : params_of (files params_file) ≡ Ok params
-  pub refused : snapshot_refusal (files init_file) ≡ Some error
 
 -- It can't, since it doesn't take the start to the target.
 pub record IsNotTaken (files : ℕ → List ℕ) (target : ℕ) (start : Start) (why : Refusal) : Type 0 where

@@ -52,13 +52,10 @@ stop_line (stop.Refused why) = line_of why
 abbrev pub IsWithoutCause : Stop → Type 0
 IsWithoutCause why = (why ≡ stop.Refused refusal.Device) ⊎ (why ≡ stop.Refused refusal.NoMemory)
 
--- a refusal that a command gives, and that has a line: none is given yet for a run that is started or has a leg open, nor
--- for a folder that has its parameters
+-- a refusal that a command gives, and that has a line: none is given yet for a folder that has its parameters
 abbrev pub IsGiven : Refusal → Type 0
 IsGiven (refusal.Params error) = NamesParameter error
 IsGiven (refusal.Snapshot error) = IsBySnapshot error
-IsGiven refusal.Started = ⊥
-IsGiven (refusal.LegOpen _ _) = ⊥
 IsGiven refusal.InitThere = ⊥
 IsGiven _ = ⊤
 

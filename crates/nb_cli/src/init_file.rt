@@ -7,7 +7,7 @@ ghost use Rattle.nb_host.specs.Meaning.{Ran};
 ghost use Rattle.nb_format.specs.Snapshot.{AreStoredBodies, IsSnapshot};
 ghost use Rattle.nb_format.specs.SnapshotRefusal.{snapshot_refusal, IsBySnapshot};
 ghost use Rattle.nb_format.specs.Reader.{count_of, time_of, IsAtStart, HasRead};
-ghost use Rattle.nb_cli.specs.Once.{init_file};
+ghost use Rattle.nb_engine.specs.Files.{init_file};
 
 use nb_format::{SnapError, SnapReader};
 use nb_host::Host;
@@ -16,22 +16,6 @@ use std::alloc::{AllocFailed, Global};
 
 /// The file of the initial snapshot.
 pub const INIT_FILE: u64 = 1;
-
-/// Reads on to the end of the snapshot, and keeps nothing.
-pub fn skim<H: Host>(host: &mut H, mut reader: SnapReader) -> Result<(), SnapError>
-    requires { IsAtStart init_file reader }
-    ensures whole { OnOk result (IsTrue H.meaning.tells
-        → HasRead reader ((H.meaning.contents host.old).file init_file) []
-        → (bodies : List Body) × (length bodies ≡ count_of reader)
-        × IsSnapshot ((H.meaning.contents host.old).file init_file) bodies (time_of reader)) }
-    ensures bad { IfErr result (λ error. IsBySnapshot error → IsTrue H.meaning.tells
-        → HasRead reader ((H.meaning.contents host.old).file init_file) []
-        → snapshot_refusal ((H.meaning.contents host.old).file init_file) ≡ Some error) }
-    ensures ran { Ran H.meaning SnapError.Fault Stays host.old host.new result }
-{
-    while let Some(_) = reader.next(host)? {}
-    Ok(())
-}
 
 /// Reads the bodies of the snapshot.
 pub fn read_bodies<H: Host>(

@@ -12,13 +12,13 @@ ghost use Rattle.nb_host.specs.Meaning.{Over, RanSyncing, IsDurable};
 ghost use Rattle.nb_format.specs.Writer.{IsFinishedAs};
 ghost use Rattle.nb_engine.specs.Refusal.{NeedsNoCause};
 ghost use Rattle.nb_cli.specs.Stop.{IsGiven};
-ghost use Rattle.nb_cli.specs.Once.{once_file, most_once_bodies, Start, ticks_to, list_at, start_refusal as refusal_of_start, once_refusal as refusal_of_once, IsReady, IsRefused};
+ghost use Rattle.nb_engine.specs.Start.{Start, start_refusal as refusal_of_start};
+ghost use Rattle.nb_cli.specs.Once.{once_file, most_once_bodies, ticks_to, list_at, once_refusal as refusal_of_once, IsReady, IsRefused};
 ghost use Rattle.nb_cli.specs.Answer.{once_syncs};
 ghost use Rattle.nb_cli.specs.Done.{TellsOf, BecomesAny, MayWrite};
 
-use crate::init_file::{INIT_FILE, read_bodies, skim};
-use crate::params_file::parameters;
-use nb_engine::Refusal;
+use crate::init_file::{INIT_FILE, read_bodies};
+use nb_engine::{Refusal, parameters, survey};
 use nb_fixed::plain_tick;
 use nb_format::{Fresh, SnapReader};
 use nb_host::{Host, HostError};
@@ -65,7 +65,7 @@ pub fn once<H: Host>(alloc: Global, host: &mut H, target: u64) -> Result<Done, R
     let time = reader.time();
     let count = reader.count();
     if count > MOST_ONCE_BODIES {
-        skim(host, reader)?;
+        survey(host, reader)?;
         return Err(Refusal::TooMany(count));
     }
     let mut bodies = read_bodies(alloc, host, reader)?;

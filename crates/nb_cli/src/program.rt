@@ -1,23 +1,25 @@
 //! The top call, which does all that the program does.
 
 ghost use Rattle.std.specs.Prelude.{◌≡◌, ◌≢◌, ◌⊎◌, ℕ, ◌↔◌, IsTrue, OnOk, IfErr, Err, map, Contains};
-ghost use Rattle.nb_host.specs.Crashes.{Stays};
+ghost use Rattle.nb_host.specs.Crashes.{Stays, EverySince};
+ghost use Rattle.nb_host.specs.Image.{Image};
 ghost use Rattle.nb_host.specs.Meaning.{Leads, IsDurable};
 ghost use Rattle.nb_engine.specs.Refusal.{NeedsNoCause};
+ghost use Rattle.nb_engine.specs.Represents.{IsSoundImage};
 ghost use Rattle.nb_cli.specs.declared.stop.Stop.{Stop};
 ghost use Rattle.nb_cli.specs.declared.words.Job.{Job};
 ghost use Rattle.nb_cli.specs.declared.words.Job.TheVariants as job;
-ghost use Rattle.nb_cli.specs.Words.{IsJob, IsNoCommand};
+ghost use Rattle.nb_cli.specs.Words.{IsJob, IsPaced, IsNoCommand};
 ghost use Rattle.nb_cli.specs.Stop.{IsGiven, IsSayable, IsWithoutCause};
-ghost use Rattle.nb_cli.specs.Answer.{statuses, Yields, ComesWhere, HasCause, HasCauseOf, IsJobReady, IsJobRefused, IsJobDone, IsUntouched, Touches, CountsRun, CountsWords, syncs_of, HasBegun, HasBegunOrNot, JobBegins, HasDone, WasTold, WasRefused};
+ghost use Rattle.nb_cli.specs.Answer.{statuses, Yields, ComesWhere, ComesByCause, HasCause, HasSpoilt, IsSpoiltBy, IsJobReady, IsJobRefused, IsJobSpoilt, IsJobDone, LeavesAll, Touches, CountsRun, CountsWords, syncs_of, HasBegun, HasBegunOrNot, JobBegins, HasDone, WasTold, WasRefused};
 
 use crate::once_command::once;
 use crate::show_command::folder_text;
 use crate::status::DONE;
 use crate::stop::Stop;
 use crate::words::{Job, job_of};
-use nb_engine::{Refusal, show};
-use nb_format::once_line;
+use nb_engine::{Pace, Refusal, go, resume, show, start};
+use nb_format::{done_line, once_line, started_line};
 use nb_host::{Channel, Host};
 use std::alloc::Global;
 
@@ -29,22 +31,25 @@ pub fn nbody<H: Host>(alloc: Global, words: &[&str], host: &mut H) -> u8
     // When each status comes.
     ensures words { ComesWhere 1 result (IsNoCommand (map (λ w. w.now) words.now)) }
     ensures causes { (status : ℕ) → IsTrue H.meaning.tells → status ≢ 0 → (Yields status → ⊥)
-        → ComesWhere status result
-        (HasCauseOf (map (λ w. w.now) words.now) (H.meaning.contents host.old).file status) }
+        → ComesByCause (map (λ w. w.now) words.now) (H.meaning.contents host.old).file status result }
     ensures complete { (job : Job) → IsJob (map (λ w. w.now) words.now) job
         → IsTrue H.meaning.tells → IsJobReady (H.meaning.contents host.old).file job
-        → (result ≡ 0) ⊎ Yields result }
+        → (result ≡ 0) ⊎ Yields result
+        ⊎ IsSpoiltBy (map (λ w. w.now) words.now) (H.meaning.contents host.old).file result }
 
     // What the command does, and what a refusal is and leaves.
     ensures done { result ≡ 0 → HasDone H.meaning (map (λ w. w.now) words.now) host.old host.new }
     ensures refused { result ≢ 0 → WasRefused H.meaning (map (λ w. w.now) words.now) host.old host.new result }
     ensures untouched { (why : Stop) → IsTrue H.meaning.tells
         → HasCause (map (λ w. w.now) words.now) (H.meaning.contents host.old).file why
-        → IsUntouched (H.meaning.contents host.old) (H.meaning.contents host.new) }
+        → LeavesAll (map (λ w. w.now) words.now) (H.meaning.contents host.old) (H.meaning.contents host.new) }
 
-    // What reads, and what a crash leaves, at each moment.
-    ensures leads { Leads H.meaning
-        (Touches (map (λ w. w.now) words.now) (H.meaning.contents host.old).file) host.old host.new }
+    // What reads, and what a crash leaves, at each moment: a folder that represents a run goes on doing so.
+    ensures leads { Leads H.meaning (Touches H.meaning.crashes.is_honest (map (λ w. w.now) words.now)
+        (H.meaning.contents host.old).file) host.old host.new }
+    ensures sound { ((image : Image) → IsTrue H.meaning.crashes.is_honest
+        → H.meaning.crashes.may_leave host.old image → IsSoundImage image)
+        → EverySince H.meaning.crashes IsSoundImage host.old host.new }
 {
     match run(alloc, words, host) {
         Ok(()) => DONE,
@@ -56,11 +61,13 @@ pub fn nbody<H: Host>(alloc: Global, words: &[&str], host: &mut H) -> u8
 fn run<H: Host>(alloc: Global, words: &[&str], host: &mut H) -> Result<(), Stop>
     ensures words { (result ≡ Err Stop.Words) ↔ IsNoCommand (map (λ w. w.now) words.now) }
     ensures cause { IfErr result (λ why. IsTrue H.meaning.tells
-        → HasCause (map (λ w. w.now) words.now) (H.meaning.contents host.old).file why ⊎ IsWithoutCause why) }
+        → HasCause (map (λ w. w.now) words.now) (H.meaning.contents host.old).file why
+        ⊎ HasSpoilt (map (λ w. w.now) words.now) (H.meaning.contents host.old).file why
+        ⊎ IsWithoutCause why) }
     ensures sayable { IfErr result IsSayable }
     ensures done { OnOk result (IsTrue H.meaning.tells
         → (job : Job) × IsJob (map (λ w. w.now) words.now) job
-        × IsJobDone job (H.meaning.contents host.old) (H.meaning.contents host.new)) }
+        × IsJobDone H.meaning.crashes.is_honest job (H.meaning.contents host.old) (H.meaning.contents host.new)) }
     ensures durable { OnOk result (IsDurable H.meaning host.new) }
     ensures begun { OnOk result (HasBegun H.meaning (map (λ w. w.now) words.now) host.old host.new) }
     ensures run { HasBegunOrNot H.meaning (map (λ w. w.now) words.now) host.old host.new }
@@ -77,33 +84,101 @@ fn run<H: Host>(alloc: Global, words: &[&str], host: &mut H) -> Result<(), Stop>
 
 /// Does the command, and says its text on Out.
 fn run_job<H: Host>(alloc: Global, host: &mut H, job: Job) -> Result<(), Refusal>
-    ensures cause { IfErr result (λ why. IsTrue H.meaning.tells
-        → NeedsNoCause why ⊎ IsJobRefused (H.meaning.contents host.old).file job why) }
+    requires { IsPaced job }
+    ensures cause { IfErr result (λ why. IsTrue H.meaning.tells → NeedsNoCause why
+        ⊎ IsJobRefused (H.meaning.contents host.old).file job why
+        ⊎ IsJobSpoilt (H.meaning.contents host.old).file job why) }
     ensures given { IfErr result IsGiven }
-    ensures done { OnOk result (IsTrue H.meaning.tells
-        → IsJobDone job (H.meaning.contents host.old) (H.meaning.contents host.new)) }
+    ensures done { OnOk result (IsTrue H.meaning.tells → IsJobDone H.meaning.crashes.is_honest job
+        (H.meaning.contents host.old) (H.meaning.contents host.new)) }
     ensures durable { OnOk result (IsDurable H.meaning host.new) }
     ensures begun { OnOk result (JobBegins H.meaning job host.old host.new) }
     ensures run { Leads H.meaning Stays host.old host.new ⊎ JobBegins H.meaning job host.old host.new }
     ensures counts { CountsRun H.meaning (syncs_of job) host.old host.new result }
 {
     match job {
+        Job::Start(pages) => run_start(alloc, host, pages),
+        Job::Go(target, pace) => run_go(alloc, host, target, pace),
+        Job::Resume(pace) => run_resume(alloc, host, pace),
         Job::Once(target) => run_once(alloc, host, target),
         Job::Show => run_show(alloc, host),
     }
 }
 
+/// Does the command `start`, and says its line on Out.
+fn run_start<H: Host>(alloc: Global, host: &mut H, pages: u64) -> Result<(), Refusal>
+    requires { IsPaced (job.Start pages) }
+    ensures cause { IfErr result (λ why. IsTrue H.meaning.tells → NeedsNoCause why
+        ⊎ IsJobRefused (H.meaning.contents host.old).file (job.Start pages) why
+        ⊎ IsJobSpoilt (H.meaning.contents host.old).file (job.Start pages) why) }
+    ensures given { IfErr result IsGiven }
+    ensures done { OnOk result (IsTrue H.meaning.tells → IsJobDone H.meaning.crashes.is_honest (job.Start pages)
+        (H.meaning.contents host.old) (H.meaning.contents host.new)) }
+    ensures durable { OnOk result (IsDurable H.meaning host.new) }
+    ensures begun { OnOk result (JobBegins H.meaning (job.Start pages) host.old host.new) }
+    ensures run { Leads H.meaning Stays host.old host.new ⊎ JobBegins H.meaning (job.Start pages) host.old host.new }
+    ensures counts { CountsRun H.meaning (syncs_of (job.Start pages)) host.old host.new result }
+{
+    host.sync()?;
+    let begun = start(alloc, host, pages)?;
+    let line = started_line(begun.count, begun.time);
+    host.say(Channel::Out, line.bytes())?;
+    Ok(())
+}
+
+/// Does the command `go`, and says its last line on Out.
+fn run_go<H: Host>(alloc: Global, host: &mut H, target: u64, pace: Pace) -> Result<(), Refusal>
+    requires { IsPaced (job.Go target pace) }
+    ensures cause { IfErr result (λ why. IsTrue H.meaning.tells → NeedsNoCause why
+        ⊎ IsJobRefused (H.meaning.contents host.old).file (job.Go target pace) why
+        ⊎ IsJobSpoilt (H.meaning.contents host.old).file (job.Go target pace) why) }
+    ensures given { IfErr result IsGiven }
+    ensures done { OnOk result (IsTrue H.meaning.tells → IsJobDone H.meaning.crashes.is_honest (job.Go target pace)
+        (H.meaning.contents host.old) (H.meaning.contents host.new)) }
+    ensures durable { OnOk result (IsDurable H.meaning host.new) }
+    ensures begun { OnOk result (JobBegins H.meaning (job.Go target pace) host.old host.new) }
+    ensures run { Leads H.meaning Stays host.old host.new ⊎ JobBegins H.meaning (job.Go target pace) host.old host.new }
+    ensures counts { CountsRun H.meaning (syncs_of (job.Go target pace)) host.old host.new result }
+{
+    host.sync()?;
+    let done = go(alloc, host, pace, target)?;
+    let line = done_line(done.time, done.ticks, done.gone);
+    host.say(Channel::Out, line.bytes())?;
+    Ok(())
+}
+
+/// Does the command `resume`, and says its last line on Out.
+fn run_resume<H: Host>(alloc: Global, host: &mut H, pace: Pace) -> Result<(), Refusal>
+    requires { IsPaced (job.Resume pace) }
+    ensures cause { IfErr result (λ why. IsTrue H.meaning.tells → NeedsNoCause why
+        ⊎ IsJobRefused (H.meaning.contents host.old).file (job.Resume pace) why
+        ⊎ IsJobSpoilt (H.meaning.contents host.old).file (job.Resume pace) why) }
+    ensures given { IfErr result IsGiven }
+    ensures done { OnOk result (IsTrue H.meaning.tells → IsJobDone H.meaning.crashes.is_honest (job.Resume pace)
+        (H.meaning.contents host.old) (H.meaning.contents host.new)) }
+    ensures durable { OnOk result (IsDurable H.meaning host.new) }
+    ensures begun { OnOk result (JobBegins H.meaning (job.Resume pace) host.old host.new) }
+    ensures run { Leads H.meaning Stays host.old host.new ⊎ JobBegins H.meaning (job.Resume pace) host.old host.new }
+    ensures counts { CountsRun H.meaning (syncs_of (job.Resume pace)) host.old host.new result }
+{
+    host.sync()?;
+    let done = resume(alloc, host, pace)?;
+    let line = done_line(done.time, done.ticks, done.gone);
+    host.say(Channel::Out, line.bytes())?;
+    Ok(())
+}
+
 /// Does the command `once`, and says its line on Out.
 fn run_once<H: Host>(alloc: Global, host: &mut H, target: u64) -> Result<(), Refusal>
-    ensures cause { IfErr result (λ why. IsTrue H.meaning.tells
-        → NeedsNoCause why ⊎ IsJobRefused (H.meaning.contents host.old).file (job.Once target) why) }
+    ensures cause { IfErr result (λ why. IsTrue H.meaning.tells → NeedsNoCause why
+        ⊎ IsJobRefused (H.meaning.contents host.old).file (job.Once target) why
+        ⊎ IsJobSpoilt (H.meaning.contents host.old).file (job.Once target) why) }
     ensures given { IfErr result IsGiven }
-    ensures done { OnOk result (IsTrue H.meaning.tells
-        → IsJobDone (job.Once target) (H.meaning.contents host.old) (H.meaning.contents host.new)) }
+    ensures done { OnOk result (IsTrue H.meaning.tells → IsJobDone H.meaning.crashes.is_honest (job.Once target)
+        (H.meaning.contents host.old) (H.meaning.contents host.new)) }
     ensures durable { OnOk result (IsDurable H.meaning host.new) }
     ensures begun { OnOk result (JobBegins H.meaning (job.Once target) host.old host.new) }
-    ensures run { Leads H.meaning Stays host.old host.new
-        ⊎ JobBegins H.meaning (job.Once target) host.old host.new }
+    ensures run { Leads H.meaning Stays host.old host.new ⊎ JobBegins H.meaning (job.Once target) host.old host.new }
     ensures counts { CountsRun H.meaning (syncs_of (job.Once target)) host.old host.new result }
 {
     host.sync()?;
@@ -115,11 +190,12 @@ fn run_once<H: Host>(alloc: Global, host: &mut H, target: u64) -> Result<(), Ref
 
 /// Does the command `show`, and says its text on Out, by one call.
 fn run_show<H: Host>(alloc: Global, host: &mut H) -> Result<(), Refusal>
-    ensures cause { IfErr result (λ why. IsTrue H.meaning.tells
-        → NeedsNoCause why ⊎ IsJobRefused (H.meaning.contents host.old).file job.Show why) }
+    ensures cause { IfErr result (λ why. IsTrue H.meaning.tells → NeedsNoCause why
+        ⊎ IsJobRefused (H.meaning.contents host.old).file job.Show why
+        ⊎ IsJobSpoilt (H.meaning.contents host.old).file job.Show why) }
     ensures given { IfErr result IsGiven }
-    ensures done { OnOk result (IsTrue H.meaning.tells
-        → IsJobDone job.Show (H.meaning.contents host.old) (H.meaning.contents host.new)) }
+    ensures done { OnOk result (IsTrue H.meaning.tells → IsJobDone H.meaning.crashes.is_honest job.Show
+        (H.meaning.contents host.old) (H.meaning.contents host.new)) }
     ensures durable { OnOk result (IsDurable H.meaning host.new) }
     ensures begun { OnOk result (JobBegins H.meaning job.Show host.old host.new) }
     ensures run { Leads H.meaning Stays host.old host.new ⊎ JobBegins H.meaning job.Show host.old host.new }

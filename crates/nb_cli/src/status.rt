@@ -18,10 +18,10 @@ pub const TOO_HEAVY: u8 = 4;
 /// No run is started in the folder.
 pub const NOT_STARTED: u8 = 5;
 
-/// A run is started in the folder. No command gives it yet.
+/// A run is started in the folder.
 pub const STARTED: u8 = 6;
 
-/// The last leg isn't at its target. No command gives it yet.
+/// The last leg isn't at its target.
 pub const LEG_OPEN: u8 = 7;
 
 /// More ticks are asked for than a run can have.

@@ -1,11 +1,11 @@
-use Rattle.std.proofs.Common.{◌≡◌, List, [], ◌∷◌, ◌++◌, rules, arith, Err, subst, sym, IsTrue, ◌∙◌}
+use Rattle.std.proofs.Common.{◌≡◌, List, [], ◌∷◌, ◌++◌, rules, arith, Err, subst, sym, ◌∙◌}
 use Rattle.std.proofs.lemmas.Grind.{common_steps}
 use Rattle.nb_host.proofs.Callers.{stays_contents, stays_both}
 use Rattle.nb_model.specs.declared.body.Body.{Body}
 use Rattle.nb_format.specs.declared.snap_error.SnapError.TheVariants as snap
 use Rattle.nb_format.specs.Reader.{MayFollow, IsBehind}
-use Rattle.nb_cli.specs.Once.{init_file}
-use Rattle.nb_cli.proofs.Reading.{HasGiven, HasGiven-more, IsBad, IsFrontOf-same, not_ended, file-same}
+use Rattle.nb_engine.specs.Files.{init_file}
+use Rattle.nb_engine.proofs.Callers.{HasGiven, HasGiven-more, IsBad, IsFrontOf-same, not_ended, file-same}
 use Rattle.nb_cli.proofs.init_file.read_bodies.Goals as goal
 
 pub returns-in_err-body-clause-bad : goal.returns-in_err-body-clause-bad

@@ -2,8 +2,8 @@ use Rattle.std.proofs.Common.{◌≡◌, ◌-◌}
 use Rattle.nb_host.specs.Crashes.{Stays}
 use Rattle.nb_host.specs.Meaning.{Leads}
 use Rattle.nb_format.specs.Reader.{count_of, read_count}
-use Rattle.nb_cli.specs.Once.{init_file}
-use Rattle.nb_cli.proofs.Reading.{HasGiven}
+use Rattle.nb_engine.specs.Files.{init_file}
+use Rattle.nb_engine.proofs.Callers.{HasGiven}
 use Rattle.nb_cli.proofs.init_file.read_bodies.Given as goal
 
 abbrev pub invariant-loop-bodies : goal.invariant-loop-bodies

@@ -1,25 +1,28 @@
-use Rattle.std.proofs.Common.{rules, ◌≡◌, ◌⊎◌, inr, Err, refl, sym, ap, subst, ◌∙◌, arith, IsTrue}
+use Rattle.std.proofs.Common.{rules, ◌≡◌, ◌⊎◌, inr, Err, refl, sym, ap, ◌∙◌, arith, IsTrue}
 use Rattle.std.specs.Prelude.{replicate}
 use Rattle.nb_host.proofs.Callers.{stays_contents, stays_both}
 use Rattle.nb_model.specs.Leapfrog.{escaped_count, steps}
 use Rattle.nb_format.specs.Reader.{time_of}
+use Rattle.nb_engine.specs.declared.init_file.Census.{Census}
 use Rattle.nb_engine.specs.Refusal.{NeedsNoCause, of_snapshot}
-use Rattle.nb_cli.specs.Once.{Start, HasStart, list_at, IsReady, IsRefused}
-use Rattle.nb_cli.proofs.Starts.{refused_by_reader, header_read, refused_still, once_refusal-many, start_read, list_at-taken, becomes_from, written_list}
+use Rattle.nb_engine.specs.Start.{Start, HasStart}
+use Rattle.nb_cli.specs.Once.{list_at, IsReady, IsRefused}
+use Rattle.nb_cli.proofs.Causes.{given_by_start}
+use Rattle.nb_cli.proofs.Starts.{refused_by_reader, header_read, refused_still, once_refusal-many, start_read, list_at-taken, written_list}
 use Rattle.nb_cli.proofs.Runs.{leads_none_written, leads_written}
 use Rattle.nb_cli.proofs.once_command.once.Goals as goal
 
 -- Where the snapshot is refused.
 
-pub returns-in_err-skim-clause-cause : goal.returns-in_err-skim-clause-cause
-returns-in_err-skim-clause-cause g c =
-    let error = c.in_err-skim.field-0.0 in
+pub returns-in_err-survey-clause-cause : goal.returns-in_err-survey-clause-cause
+returns-in_err-survey-clause-cause g c =
+    let error = c.in_err-survey.field-0.0 in
     let files = (g.H.Host.meaning.contents c.args.host.now).file in
     let same = (stays_contents c.in_ok-reader.ensures.ran.leads) ∙ (stays_contents c.in_ok-params.ensures.ran.leads) in
-    let handed_on : c.from_residual-in_err-skim.result ≡ Err (of_snapshot error) = search rules in
+    let handed_on : c.from_residual-in_err-survey.result ≡ Err (of_snapshot error) = search rules in
     let why : IsTrue g.H.Host.meaning.tells → NeedsNoCause (of_snapshot error) ⊎ IsRefused files c.args.target (of_snapshot error) = λ told.
     let read = header_read (stays_contents c.in_ok-reader.ensures.ran.leads) (c.in_ok-reader.ensures.header told) in
-    refused_by_reader error (c.in_ok-params.ensures.spelled told) (λ by. refused_still same (c.in_err-skim.ensures.bad by told read)) in
+    refused_by_reader error (c.in_ok-params.ensures.spelled told) (λ by. refused_still same (c.in_err-survey.ensures.bad by told read)) in
     rw handed_on why
 
 pub returns-in_err-bodies-clause-cause : goal.returns-in_err-bodies-clause-cause
@@ -39,13 +42,13 @@ pub returns-then-count-gt-MOST_ONCE_BODIES-clause-cause : goal.returns-then-coun
 returns-then-count-gt-MOST_ONCE_BODIES-clause-cause g c told =
     let same = (stays_contents c.in_ok-reader.ensures.ran.leads) ∙ (stays_contents c.in_ok-params.ensures.ran.leads) in
     let read = header_read (stays_contents c.in_ok-reader.ensures.ran.leads) (c.in_ok-reader.ensures.header told) in
-    let whole = c.in_ok-skim.ensures.whole told read in
+    let whole = c.in_ok-survey.ensures.whole told read in
     let start : Start = record { params = c.in_ok-params.params; bodies = whole.0; time = time_of c.in_ok-reader.reader } in
     inr (inr (inr (
       start,
       record {
         starts = start_read same (c.in_ok-params.ensures.spelled told) whole.2 refl refl;
-        refused = once_refusal-many c.args.target start c.count-count.result (whole.1 ∙ sym c.count-count.ensures.value) (omega arith);
+        refused = once_refusal-many c.args.target start c.count-count.result (sym (ap (λ (x : Census). x.count) whole.1) ∙ c.in_ok-survey.ensures.full ∙ sym c.count-count.ensures.value) (omega arith);
       },
     )))
 
@@ -88,10 +91,10 @@ returns-in_err-reader-clause-ran g c = record {
   at_most = search rules;
 }
 
-pub returns-in_err-skim-clause-ran : goal.returns-in_err-skim-clause-ran
-returns-in_err-skim-clause-ran g c = record {
+pub returns-in_err-survey-clause-ran : goal.returns-in_err-survey-clause-ran
+returns-in_err-survey-clause-ran g c = record {
   leads = leads_none_written
-      (stays_both (stays_both c.in_ok-params.ensures.ran.leads c.in_ok-reader.ensures.ran.leads) c.in_err-skim.ensures.ran.leads);
+      (stays_both (stays_both c.in_ok-params.ensures.ran.leads c.in_ok-reader.ensures.ran.leads) c.in_err-survey.ensures.ran.leads);
   count = search rules;
   rose = search rules;
   spared = search rules;
@@ -103,7 +106,7 @@ returns-in_err-skim-clause-ran g c = record {
 pub returns-then-count-gt-MOST_ONCE_BODIES-clause-ran : goal.returns-then-count-gt-MOST_ONCE_BODIES-clause-ran
 returns-then-count-gt-MOST_ONCE_BODIES-clause-ran g c = record {
   leads = leads_none_written
-      (stays_both (stays_both c.in_ok-params.ensures.ran.leads c.in_ok-reader.ensures.ran.leads) c.in_ok-skim.ensures.ran.leads);
+      (stays_both (stays_both c.in_ok-params.ensures.ran.leads c.in_ok-reader.ensures.ran.leads) c.in_ok-survey.ensures.ran.leads);
   count = search rules;
   rose = search rules;
   spared = search rules;
@@ -195,3 +198,11 @@ returns-clause-ran g c =
       synced = search rules;
       at_most = search rules;
     }
+
+-- Which refusals it gives.
+
+pub returns-in_err-params-clause-given : goal.returns-in_err-params-clause-given
+returns-in_err-params-clause-given g c =
+    let why = c.in_err-params.field-0.0 in
+    let handed_on : c.from_residual.result ≡ Err why = search rules in
+    rw handed_on (given_by_start why c.in_err-params.ensures.refusals)

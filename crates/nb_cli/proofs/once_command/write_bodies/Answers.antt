@@ -1,4 +1,4 @@
-use Rattle.std.proofs.Common.{◌<◌, ℕ, List, length, get_or, false, pos, arith, rules, subst, refl, sym, ap, ◌∙◌, Option}
+use Rattle.std.proofs.Common.{◌<◌, ℕ, List, length, get_or, false, pos, rules, subst, refl, sym, ap, ◌∙◌, Option}
 use Rattle.std.specs.Prelude.{IfSome}
 use Rattle.std.proofs.lemmas.List.{take_more}
 use Rattle.nb_model.specs.declared.body.Body.{Body}

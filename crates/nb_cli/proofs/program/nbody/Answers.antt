@@ -2,6 +2,7 @@ use Rattle.std.proofs.Common.{◌≡◌, ◌⊎◌, inr, ℕ, List, map, Bor, Is
 use Rattle.nb_cli.specs.Stop.{stop_status}
 use Rattle.nb_cli.specs.Answer.{Yields}
 use Rattle.nb_cli.proofs.Statuses.{IsRefusal, refusal_told, told_answer, finished_no_cause, finished_where, refused_where, refused_complete, cause_untouched, run_leads, leads_run, leads_told, not_done, status_in, words_where}
+use Rattle.nb_cli.proofs.Sounding.{stays_sound}
 use Rattle.nb_cli.proofs.program.nbody.Given.{Over}
 use Rattle.nb_cli.proofs.program.nbody.Goals as goal
 
@@ -47,3 +48,12 @@ returns-in-Err-clause-untouched g c why told holds =
 
 pub returns-in-Err-clause-leads : goal.returns-in-Err-clause-leads
 returns-in-Err-clause-leads g c = leads_told (run_leads c.run.ensures.run) c.say_why.ensures
+
+-- A folder that is sound stays so.
+
+pub returns-in-Ok-clause-sound : goal.returns-in-Ok-clause-sound
+returns-in-Ok-clause-sound g c at_entry = stays_sound g.H.Host.meaning {files = (g.H.Host.meaning.contents c.args.host.now).file} (leads_run (run_leads c.run.ensures.run)) at_entry
+
+pub returns-in-Err-clause-sound : goal.returns-in-Err-clause-sound
+returns-in-Err-clause-sound g c at_entry =
+    stays_sound g.H.Host.meaning {files = (g.H.Host.meaning.contents c.args.host.now).file} (leads_told (run_leads c.run.ensures.run) c.say_why.ensures) at_entry

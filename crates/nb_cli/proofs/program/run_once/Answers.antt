@@ -1,9 +1,9 @@
-use Rattle.std.proofs.Common.{rules, ◌≡◌, ◌⊎◌, inr, Ok, Err, ◌∙◌, IsTrue, IsOk}
+use Rattle.std.proofs.Common.{rules, ◌≡◌, ◌+◌, inr, Ok, Err, ◌∙◌, IsTrue, IsOk}
 use Rattle.nb_host.proofs.Callers.{stays_contents, syncing_then}
-use Rattle.nb_engine.specs.Refusal.{of_host, NeedsNoCause}
+use Rattle.nb_engine.specs.Refusal.{of_host}
 use Rattle.nb_cli.specs.declared.words.Job.TheVariants as job
-use Rattle.nb_cli.specs.Answer.{IsJobRefused, once_syncs, syncs_of}
-use Rattle.nb_cli.proofs.Causes.{cause_still}
+use Rattle.nb_cli.specs.Answer.{once_syncs}
+use Rattle.nb_cli.proofs.Causes.{IsCause, cause_still, never_spoilt}
 use Rattle.nb_cli.proofs.Runs.{to_say, leads_synced, leads_file, leads_from, leads_line, counts_unsynced, counts_refused, counts_said, said_answer}
 use Rattle.nb_cli.proofs.program.run_once.Goals as goal
 
@@ -11,8 +11,9 @@ pub returns-in_err-done-clause-cause : goal.returns-in_err-done-clause-cause
 returns-in_err-done-clause-cause g c =
     let why = c.in_err-done.field-0.0 in
     let handed_on : c.from_residual-in_err-done.result ≡ Err why = search rules in
-    let cause : IsTrue g.H.Host.meaning.tells → NeedsNoCause why ⊎ IsJobRefused (g.H.Host.meaning.contents c.args.host.now).file (job.Once c.args.target) why = λ told.
-    cause_still (job.Once c.args.target) (stays_contents c.sync.ensures.ran.leads) (c.in_err-done.ensures.cause told) in
+    let cause : IsTrue g.H.Host.meaning.tells → IsCause (g.H.Host.meaning.contents c.args.host.now).file (job.Once c.args.target) why = λ told.
+    cause_still (job.Once c.args.target) (stays_contents c.sync.ensures.ran.leads)
+    (never_spoilt (g.H.Host.meaning.contents c.sync.new.self).file (job.Once c.args.target) (c.in_err-done.ensures.cause told)) in
     rw handed_on cause
 
 -- What it leaves at each moment.
@@ -75,7 +76,7 @@ returns-in_err-say-clause-counts g c =
     let done : IsOk c.once.result = search rules in
     let handed_on : c.from_residual-in_err-say.result ≡ said_answer c.say.result = search rules in
     rw handed_on
-    (counts_said (syncs_of (job.Once c.args.target))
+    (counts_said (once_syncs + 1)
     (syncing_then fine c.sync.ensures.ran c.once.ensures.ran
     (leads_synced c.sync.ensures.ran.leads
     (leads_from (stays_contents c.sync.ensures.ran.leads) c.once.ensures.ran.leads)))
@@ -87,7 +88,7 @@ returns-clause-counts g c =
     let done : IsOk c.once.result = search rules in
     let handed_on : c.say.result ≡ Ok tt = search rules in
     rw handed_on at
-    (counts_said (syncs_of (job.Once c.args.target))
+    (counts_said (once_syncs + 1)
     (syncing_then fine c.sync.ensures.ran c.once.ensures.ran
     (leads_synced c.sync.ensures.ran.leads
     (leads_from (stays_contents c.sync.ensures.ran.leads) c.once.ensures.ran.leads)))

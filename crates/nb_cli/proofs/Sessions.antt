@@ -1,0 +1,222 @@
+-- A run of `start`, `go` or `resume`, with its line: where it leads, and what it owes to the counts.
+use Rattle.std.proofs.Common.{◌≡◌, ◌≤◌, ◌⊎◌, inl, inr, ℕ, Bool, List, length, refl, ap, sym, subst, ◌∙◌, IsTrue, IsOk, Result, Ok, Err, None, rules}
+use Rattle.nb_host.specs.declared.host.Channel.{Channel}
+use Rattle.nb_host.specs.declared.host.Channel.TheVariants as channels
+use Rattle.nb_host.specs.declared.host.HostError.{HostError}
+use Rattle.nb_host.specs.declared.host.HostError.TheVariants.{Fault, NoMemory}
+use Rattle.nb_host.specs.Image.{Image, Says, SaysPart}
+use Rattle.nb_host.specs.Meaning.{HostModel, Leads, Spoke, RanSyncing, IsDurable}
+use Rattle.nb_host.proofs.Callers.{goes_on, leads_more, stopped_after, ok_is_no_error}
+use Rattle.nb_engine.specs.declared.going.Pace.{Pace}
+use Rattle.nb_engine.specs.declared.refusal.Refusal.{Refusal}
+use Rattle.nb_engine.specs.declared.refusal.Refusal.TheVariants as refusal
+use Rattle.nb_engine.specs.Frame.{RanSession}
+use Rattle.nb_engine.proofs.Callers.{leads_from_durable}
+use Rattle.nb_engine.specs.Refusal.{of_host}
+use Rattle.nb_engine.specs.Sessions.{GoLeads, ResumeLeads}
+use Rattle.nb_engine.specs.declared.run_start.Begun.{Begun}
+use Rattle.nb_engine.specs.Start.{Start, StartLeads, TellsStart}
+use Rattle.nb_format.specs.Lines.{started_line}
+use Rattle.nb_cli.specs.declared.words.Job.TheVariants as job
+use Rattle.nb_cli.specs.Answer.{HasStarted, HasGone, HasResumed, IsDoneThenTold, LeadsThenTells, JobTouches, CountsRun}
+use Rattle.nb_cli.proofs.Runs.{Out≢Err, said_answer}
+
+-- ---- where it leads
+
+-- What a session may have changed at some moment, with its line. It says nothing on Err.
+pub record SessionTouches (by : Image → Image → Type 0) (Did : Image → Image → List ℕ → Type 0) (old new : Image) : Type 0 where
+  pub touches : LeadsThenTells by Did old new
+  pub err : new.said channels.Err ≡ old.said channels.Err
+
+module _ (by : Image → Image → Type 0) (Did : Image → Image → List ℕ → Type 0) (err_of : (old new : Image) → by old new → new.said channels.Err ≡ old.said channels.Err) where
+  unsaid : (old new : Image) → by old new → SessionTouches by Did old new
+  unsaid old new leads = record {
+    touches = record { between = new; leads = leads; files = refl; told = inl refl };
+    err = err_of old new leads;
+  }
+
+  -- without its line
+  pub session_leads : {H : Type 0} {m : HostModel H} {old new : H} → Leads m by old new → Leads m (SessionTouches by Did) old new
+  session_leads leads = leads_more leads unsaid
+
+  partly_said : (line : List ℕ) {old between new : Image} → by old between → Did old between line
+      → SaysPart channels.Out line between new → SessionTouches by Did old new
+  partly_said line {old = old} {between = between} leads did part = record {
+    touches = record {
+      between = between;
+      leads = leads;
+      files = part.2.files;
+      told = inr (line, did, (part.0, part.1, part.2.said));
+    };
+    err = part.2.others channels.Err Out≢Err ∙ err_of old between leads;
+  }
+
+  -- The line is said behind what is done, which is durable.
+  pub session_told : {H : Type 0} {m : HostModel H} (line : List ℕ) {old middle new : H} → IsDurable m old → Leads m by old middle → IsDurable m middle
+      → (IsTrue m.tells → Did (m.contents old) (m.contents middle) line) → Leads m (SaysPart channels.Out line) middle new
+      → Leads m (SessionTouches by Did) old new
+  session_told {H = H} {m = m} line {old = old} {middle = middle} {new = new} before leads durable did said =
+      leads_from_durable Behind (SessionTouches by Did) before led told where
+        -- an image before the line, or behind what is done
+        Behind : Image → Image → Type 0
+        Behind start image =
+            by start image ⊎ (by start (m.contents middle) × SaysPart channels.Out line (m.contents middle) image)
+
+        led : Leads m Behind old new
+        led = record {
+          contents = λ tells. inr (leads.contents tells, said.contents tells);
+          images = goes_on leads.images said.images (λ start image step. inl step)
+              (λ start between image honest one left two.
+              let same = durable between honest left in
+              inr (
+                subst (λ (i : Image). by start i) same one,
+                subst (λ (i : Image). SaysPart channels.Out line i image) same two,
+              ));
+        }
+
+        told : IsTrue m.tells → (image : Image) → Behind (m.contents old) image → SessionTouches by Did (m.contents old) image
+        told tells image (inl step) = unsaid (m.contents old) image step
+        told tells image (inr both) = partly_said line both.0 (did tells) both.1
+
+-- the line behind what is done
+pub session_done : (by : Image → Image → Type 0) (Did : Image → Image → List ℕ → Type 0) (line : List ℕ) {old middle new : Image}
+    → by old middle → Did old middle line → Says channels.Out line middle new → IsDoneThenTold by Did old new
+session_done by Did line {middle = middle} leads did says = record {
+  between = middle;
+  leads = leads;
+  line = line;
+  done = did;
+  files = says.files;
+  out = says.said;
+  err = says.others channels.Err Out≢Err;
+}
+
+-- ---- the three commands
+
+start_err : (honest : Bool) (old new : Image) → StartLeads honest old new → new.said channels.Err ≡ old.said channels.Err
+start_err honest old new leads = ap (λ (f : Channel → List ℕ). f channels.Err) leads.others.said
+
+go_err : (honest : Bool) (target : ℕ) (old new : Image) → GoLeads honest target old new
+    → new.said channels.Err ≡ old.said channels.Err
+go_err honest target old new leads = leads.session.apart.err
+
+resume_err : (honest : Bool) (old new : Image) → ResumeLeads honest old new → new.said channels.Err ≡ old.said channels.Err
+resume_err honest old new leads = leads.session.apart.err
+
+module _ {H : Type 0} (m : HostModel H) (files : ℕ → List ℕ) where
+  abbrev honest : Bool
+  honest = m.crashes.is_honest
+
+  pub start_touches : (pages : ℕ) {old new : H} → Leads m (StartLeads honest) old new
+      → Leads m (JobTouches honest files (job.Start pages)) old new
+  start_touches pages leads =
+      leads_more (session_leads (StartLeads honest) HasStarted (start_err honest) leads)
+      (λ old new step. record { touches = inr step.touches; err = step.err })
+
+  pub start_told : (pages : ℕ) (line : List ℕ) {old middle new : H} → IsDurable m old → Leads m (StartLeads honest) old middle
+      → IsDurable m middle → (IsTrue m.tells → HasStarted (m.contents old) (m.contents middle) line)
+      → Leads m (SaysPart channels.Out line) middle new → Leads m (JobTouches honest files (job.Start pages)) old new
+  start_told pages line before leads durable did said =
+      leads_more (session_told (StartLeads honest) HasStarted (start_err honest) line before leads durable did said)
+      (λ old new step. record { touches = inr step.touches; err = step.err })
+
+  pub go_touches : (target : ℕ) (pace : Pace) {old new : H} → Leads m (GoLeads honest target) old new
+      → Leads m (JobTouches honest files (job.Go target pace)) old new
+  go_touches target pace leads =
+      leads_more (session_leads (GoLeads honest target) (HasGone target) (go_err honest target) leads)
+      (λ old new step. record { touches = inr step.touches; err = step.err })
+
+  pub go_told : (target : ℕ) (pace : Pace) (line : List ℕ) {old middle new : H} → IsDurable m old
+      → Leads m (GoLeads honest target) old middle → IsDurable m middle
+      → (IsTrue m.tells → HasGone target (m.contents old) (m.contents middle) line)
+      → Leads m (SaysPart channels.Out line) middle new → Leads m (JobTouches honest files (job.Go target pace)) old new
+  go_told target pace line before leads durable did said =
+      leads_more (session_told (GoLeads honest target) (HasGone target) (go_err honest target) line before leads durable did said)
+      (λ old new step. record { touches = inr step.touches; err = step.err })
+
+  pub resume_touches : (pace : Pace) {old new : H} → Leads m (ResumeLeads honest) old new
+      → Leads m (JobTouches honest files (job.Resume pace)) old new
+  resume_touches pace leads =
+      leads_more (session_leads (ResumeLeads honest) HasResumed (resume_err honest) leads)
+      (λ old new step. record { touches = inr step.touches; err = step.err })
+
+  pub resume_told : (pace : Pace) (line : List ℕ) {old middle new : H} → IsDurable m old → Leads m (ResumeLeads honest) old middle
+      → IsDurable m middle → (IsTrue m.tells → HasResumed (m.contents old) (m.contents middle) line)
+      → Leads m (SaysPart channels.Out line) middle new → Leads m (JobTouches honest files (job.Resume pace)) old new
+  resume_told pace line before leads durable did said =
+      leads_more (session_told (ResumeLeads honest) HasResumed (resume_err honest) line before leads durable did said)
+      (λ old new step. record { touches = inr step.touches; err = step.err })
+
+-- the line that was made of the answer of `start`
+pub started_told : {start : Start} {begun : Begun} (line : List ℕ) → line ≡ started_line begun.count begun.time
+    → TellsStart start begun → line ≡ started_line (length start.bodies) start.time
+started_told {start = start} {begun = begun} line is tells =
+    is ∙ ap (λ (n : ℕ). started_line n begun.time) tells.count ∙ ap (started_line (length start.bodies)) tells.time
+
+-- ---- what it owes to the counts
+
+-- the first sync failed
+pub counts_first : {H T : Type 0} {m : HostModel H} {by : Image → Image → Type 0} {old new : H} {result : Result T HostError}
+    {error : HostError} → RanSyncing m 1 Fault by old new result → result ≡ Err error
+    → CountsRun m None old new (Err (of_host error))
+counts_first {old = old} {new = new} {error = error} ran is = record {
+  count = ran.count;
+  rose = λ err. ran.rose (is ∙ ap Err (by_device error err));
+  spared = λ other. ran.spared (λ err. other (to_device error (sym is ∙ err)));
+  refused = λ told. ap (λ (f : Channel → ℕ). f channels.Err) ran.refused;
+  heard = λ told ok. absurd (search rules);
+  syncs = λ told. tt;
+} where
+  by_device : (error : HostError) → ◌≡◌ {A = Result (Unit {0}) Refusal} (Err (of_host error)) (Err refusal.Device) → error ≡ Fault
+  by_device Fault err = refl
+  by_device NoMemory err = cc
+
+  to_device : {T : Type 0} (error : HostError) → ◌≡◌ {A = Result T HostError} (Err error) (Err Fault)
+      → ◌≡◌ {A = Result (Unit {0}) Refusal} (Err (of_host error)) (Err refusal.Device)
+  to_device Fault err = refl
+  to_device NoMemory err = cc
+
+-- the session refused, behind the first sync
+pub counts_session : {H S T : Type 0} {m : HostModel H} {one two : Image → Image → Type 0} {old middle new : H}
+    {first : Result S HostError} {result : Result T Refusal} {why : Refusal} → IsOk first
+    → RanSyncing m 1 Fault one old middle first → RanSession m two middle new result → result ≡ Err why
+    → CountsRun m None old new (Err why)
+counts_session {m = m} {old = old} {middle = middle} {new = new} {why = why} ok before after is =
+    let same = before.spared (ok_is_no_error ok) in
+    record {
+      count = subst (λ n. n ≤ m.faults new) same after.count;
+      rose = λ err. stopped_after same (after.rose (is ∙ ap Err (inside err)));
+      spared = λ never. after.spared (λ err. never (ap Err (inside (sym is ∙ err)))) ∙ same;
+      refused = λ told. after.refused told ∙ ap (λ (f : Channel → ℕ). f channels.Err) before.refused;
+      heard = λ told fine. absurd (search rules);
+      syncs = λ told. tt;
+    } where
+      inside : {T : Type 0} {a b : Refusal} → ◌≡◌ {A = Result T Refusal} (Err a) (Err b) → a ≡ b
+      inside same = cc
+
+-- its line, behind the session
+pub counts_line : {H S T : Type 0} {m : HostModel H} {one two : Image → Image → Type 0} {old middle last new : H}
+    {first : Result S HostError} {result : Result T Refusal} {line : List ℕ} {answer : Result (Unit {0}) HostError} → IsOk first
+    → RanSyncing m 1 Fault one old middle first → RanSession m two middle last result → IsOk result
+    → Spoke m channels.Out line last new answer → CountsRun m None old new (said_answer answer)
+counts_line {m = m} {new = new} {answer = answer} ok before after done spoke =
+    let spared = after.spared (ok_is_no_error done) ∙ before.spared (ok_is_no_error ok) in
+    record {
+      count = subst (λ n. n ≤ m.faults new) spared spoke.count;
+      rose = λ err. stopped_after spared (spoke.rose (device answer err));
+      spared = λ never. spoke.spared (λ err. never (ap said_answer err)) ∙ spared;
+      refused = λ told. (spoke.refused told).others channels.Err Out≢Err
+          ∙ after.refused told ∙ ap (λ (f : Channel → ℕ). f channels.Err) before.refused;
+      heard = λ told fine. (spoke.refused told).spared (went answer fine)
+          ∙ after.heard told done ∙ ap (λ (f : Channel → ℕ). f channels.Out) before.refused;
+      syncs = λ told. tt;
+    } where
+      device : (answer : Result (Unit {0}) HostError) → said_answer answer ≡ Err refusal.Device → answer ≡ Err Fault
+      device (Ok tt) err = cc
+      device (Err Fault) err = refl
+      device (Err NoMemory) err = cc
+
+      went : (answer : Result (Unit {0}) HostError) → IsOk (said_answer answer) → IsOk answer
+      went (Ok tt) fine = refl
+      went (Err Fault) fine = absurd (search rules)
+      went (Err NoMemory) fine = absurd (search rules)

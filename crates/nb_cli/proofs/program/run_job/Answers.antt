@@ -1,0 +1,4 @@
+use Rattle.nb_cli.proofs.program.run_job.Goals as goal
+
+pub returns-in-Start-clause-cause : goal.returns-in-Start-clause-cause
+returns-in-Start-clause-cause g c = rw c.in-Start.is c.run_start.ensures.cause
