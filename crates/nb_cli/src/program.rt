@@ -225,4 +225,6 @@ fn say_why<H: Host>(host: &mut H, why: Stop) -> u8
 }
 
 #[cfg(test)]
+mod sessions;
+#[cfg(test)]
 mod tests;
