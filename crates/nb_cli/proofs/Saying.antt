@@ -29,7 +29,7 @@ behind_answer (stop.Refused (refusal.TickLimit _)) (Err error) = inr (yields_by 
 behind_answer (stop.Refused refusal.InitThere) (Err error) = inr (yields_by error)
 behind_answer (stop.Refused (refusal.TooMany _)) (Err error) = inr (yields_by error)
 behind_answer (stop.Refused refusal.Device) (Err error) = inl refl
-behind_answer (stop.Refused (refusal.Damaged _)) (Err error) = inr (yields_by error)
+behind_answer (stop.Refused (refusal.Damaged _)) (Err error) = inl refl
 behind_answer (stop.Refused refusal.NoMemory) (Err error) = inl refl
 
 -- A device fault and want of memory stay what they are.

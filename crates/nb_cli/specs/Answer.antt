@@ -289,10 +289,11 @@ pub record HasDone {H : Type 0} (m : HostModel H) (words : List (List ℕ)) (old
   pub begun : HasBegun m words old new
   pub counts : CountsWords m words old new (Ok tt)
 
--- the status, once its line was said on Err, or wasn't: a device fault and want of memory stay what they are
+-- the status, once its line was said on Err, or wasn't: a device fault, damage and want of memory stay what they are
 abbrev pub status_behind : Stop → Result (Unit {0}) HostError → ℕ
 status_behind why (Ok _) = stop_status why
 status_behind (stop.Refused refusal.Device) (Err _) = stop_status (stop.Refused refusal.Device)
+status_behind (stop.Refused (refusal.Damaged page)) (Err _) = stop_status (stop.Refused (refusal.Damaged page))
 status_behind (stop.Refused refusal.NoMemory) (Err _) = stop_status (stop.Refused refusal.NoMemory)
 status_behind why (Err error) = stop_status (stop.Refused (of_host error))
 

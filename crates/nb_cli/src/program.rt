@@ -209,7 +209,8 @@ fn run_show<H: Host>(alloc: Global, host: &mut H) -> Result<(), Refusal>
 }
 
 /// Says on Err why the program isn't done, and answers the status: that of the reason, or, where its line
-/// couldn't be said, that of what kept it from being said. A device fault and want of memory stay what they are.
+/// couldn't be said, that of what kept it from being said. A device fault, damage and want of memory stay what they
+/// are.
 fn say_why<H: Host>(host: &mut H, why: Stop) -> u8
     requires { IsSayable why }
     ensures { WasTold H.meaning why host.old host.new result }
@@ -219,7 +220,7 @@ fn say_why<H: Host>(host: &mut H, why: Stop) -> u8
         return why.status();
     };
     match why {
-        Stop::Refused(Refusal::Device | Refusal::NoMemory) => why.status(),
+        Stop::Refused(Refusal::Device | Refusal::Damaged(_) | Refusal::NoMemory) => why.status(),
         _ => Stop::Refused(Refusal::from(error)).status(),
     }
 }

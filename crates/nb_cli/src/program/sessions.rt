@@ -372,6 +372,9 @@ const REFUSED: &[Case] = &[
             Step::Spoil(JOURNAL, 4097, b'Q'),
             Step::Run(&["show"], 12, b"", b"nbody: damaged file 2 at 4096\n"),
             Step::Run(&["go", "2"], 12, b"", b"nbody: damaged file 2 at 4096\n"),
+            // half of the line can be said, and the status stays
+            Step::Fail(5),
+            Step::Run(&["show"], 12, b"", b"nbody: damaged "),
         ],
     ),
 ];
