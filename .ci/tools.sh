@@ -1,6 +1,7 @@
 #!/bin/sh
 # The tests of the tools that need more than tools/test_bodies.py, by a Python that has numpy and matplotlib. Where none has,
-# they are installed by apt if that may be. If not, the tests that need them are skipped, and the last line says so.
+# they are installed by apt if that may be. If not, the tests that need them are skipped, and the last lines say so. The
+# one of a film needs ffmpeg, which is large and isn't installed.
 cd "$(dirname "$0")/../tools" || exit 1
 debians=/usr/bin/python3
 
@@ -27,4 +28,7 @@ tests=$(ls test_*.py | grep -v '^test_bodies.py$' | sed 's/\.py$//')
 "$python" -B -m unittest $tests || exit 1
 if ! has_both "$python"; then
     echo "tools: SKIPPED every test that needs numpy or matplotlib: apt-get install -y python3-numpy python3-matplotlib" >&2
+fi
+if ! command -v ffmpeg >/dev/null; then
+    echo "tools: SKIPPED the test of a film by ffmpeg: apt-get install -y ffmpeg" >&2
 fi

@@ -3,6 +3,7 @@
 Python's standard library is all that it needs. The forms of the files are those of docs/FORMATS.md.
 """
 
+import contextlib
 import importlib
 import importlib.util
 import os
@@ -41,6 +42,7 @@ RANGES = {
 }
 
 PAGE = 4096
+JOURNAL_GATE = b"S"
 ENTRY = struct.Struct("<cc6sQQQ")  # the gate, the kind, zeros, the target or the tick's number, out, zeros
 PAGE_0 = struct.Struct("<c7s6QQQQQ")  # the gate, the form's name, six parameters, bodies, time, out, edge
 
@@ -50,6 +52,23 @@ DEBIANS_PYTHON = "/usr/bin/python3"
 
 class Refused(Exception):
     """Why nothing is written, in one line."""
+
+
+# What a user is told of a file for these errors. Of others the system's words are told.
+FILE_ERRORS = {
+    FileNotFoundError: "isn't there",
+    IsADirectoryError: "is a folder, and has to be a file",
+    NotADirectoryError: "is no folder",
+    FileExistsError: "is there, and is no folder",
+    PermissionError: "may not be opened or written",
+}
+
+
+def reason_of(why):
+    """The line that tells a user of a refusal, or of an error of a file, which is named."""
+    if not isinstance(why, OSError) or why.filename is None:
+        return str(why)
+    return f"{why.filename} {FILE_ERRORS.get(type(why), f'fails: {why.strerror}')}"
 
 
 def require(*names):
@@ -91,10 +110,26 @@ def range_of(column, is_out):
     return (-(2**63), 2**63 - 1) if is_out else (1 - SPEED_LIMIT, SPEED_LIMIT - 1)
 
 
+def header_bytes(count, time):
+    return HEADER.pack(GATE, FORM, count, time, 0)
+
+
 def snapshot_of(bodies, time):
     """The bytes of the snapshot of these bodies, whose ids rise."""
     records = (RECORD.pack(b.id, b.mass, b.out, b.x, b.y, b.z, b.vx, b.vy, b.vz) for b in bodies)
-    return HEADER.pack(GATE, FORM, len(bodies), time, 0) + b"".join(records)
+    return header_bytes(len(bodies), time) + b"".join(records)
+
+
+class Bodies(list):
+    """Bodies whose ids rise, as write_run of tables.py takes them; bulk.py has them as an array."""
+
+    @property
+    def mass(self):
+        return sum(body.mass for body in self)
+
+    def snapshot(self, time):
+        """The parts of the bytes of their snapshot."""
+        return [snapshot_of(self, time)]
 
 
 def header_of(data):
@@ -114,22 +149,32 @@ def header_of(data):
     return count, time
 
 
+def fault_of(body, last_id):
+    """nbody's word for the first field of a body that isn't of the form, or None. `last_id` is the id of the body
+    before it, -1 where there is none."""
+    for is_right, name in (
+        (body.id > last_id, "id order"),
+        (body.mass != 0, "mass"),
+        (body.out in (0, 1), "flag"),
+        (all(place < BOX_SIDE for place in body[2:5]), "place"),
+        (body.out == 1 or all(abs(speed) < SPEED_LIMIT for speed in body[5:8]), "speed"),
+    ):
+        if not is_right:
+            return name
+    return None
+
+
 def bodies_of(data):
     """The bodies and the time of a snapshot. A refusal has the words that nbody has for it."""
     _, time = header_of(data)
-    bodies = []
+    bodies, last_id = [], -1
     for index, (number, mass, out, *rest) in enumerate(RECORD.iter_unpack(data[HEADER.size :])):
         body = Body(number, mass, *rest, out)
-        for is_right, name in (
-            (not bodies or number > bodies[-1].id, "id order"),
-            (mass != 0, "mass"),
-            (out in (0, 1), "flag"),
-            (all(place < BOX_SIDE for place in rest[:3]), "place"),
-            (out == 1 or all(abs(speed) < SPEED_LIMIT for speed in rest[3:]), "speed"),
-        ):
-            if not is_right:
-                raise Refused(f"{name} at body {index}")
+        fault = fault_of(body, last_id)
+        if fault:
+            raise Refused(f"{fault} at body {index}")
         bodies.append(body)
+        last_id = number
     return bodies, time
 
 
@@ -156,6 +201,24 @@ def snapshots_of(folder):
     if not paths:
         raise Refused(f"{folder} has no snapshot: no init.nbs, snap.*.nbs or once.nbs")
     return paths
+
+
+def is_unfinished(path):
+    """Whether a snapshot is empty, or its gate is still to come."""
+    with open(path, "rb") as file:
+        return file.read(1) in (b"", b"\0")
+
+
+def finished(paths, tell):
+    """The paths of those snapshots that are finished. `tell` is called with a line for each other: nbody leaves one
+    while it writes, where it was stopped, and where it emptied what an earlier run had left under a tick's name.
+    """
+    unfinished = [path for path in paths if is_unfinished(path)]
+    for path in unfinished:
+        tell(f"{path} isn't finished, and is passed over")
+    if len(unfinished) == len(paths):
+        raise Refused("there is no finished snapshot")
+    return [path for path in paths if path not in unfinished]
 
 
 def params_of(given, mass):
@@ -199,7 +262,7 @@ Journal = namedtuple("Journal", "params bodies time out entries")
 
 def journal_of(data):
     """A run's journal, or None where none is started. Damage is told by its first place."""
-    if len(data) <= PAGE or data[:1] != b"S":
+    if len(data) <= PAGE or data[:1] != JOURNAL_GATE:
         return None
     _, form, *numbers, bodies, time, out, edge = PAGE_0.unpack_from(data)
     params = dict(zip(RANGES, numbers))
@@ -237,31 +300,47 @@ def entries_of(data, bodies, time, out):
             entries.append(Tick(ticks, time, out))
 
 
+def is_started(folder):
+    """Whether a run is started in a folder, damaged or not."""
+    try:
+        with open(os.path.join(folder, "journal"), "rb") as file:
+            return file.read(1) == JOURNAL_GATE and os.fstat(file.fileno()).st_size > PAGE
+    except (FileNotFoundError, NotADirectoryError):
+        return False
+
+
 def read_journal(folder):
     path = os.path.join(folder, "journal")
+    if not os.path.isdir(folder):
+        raise Refused(f"{folder} is no folder")
+    if not is_started(folder):
+        raise Refused(f"no run is started in {folder}")
     with open(path, "rb") as file:
         data = file.read()
     try:
-        journal = journal_of(data)
+        return journal_of(data)
     except Refused as why:
         raise Refused(f"{path} is {why}") from None
-    if journal is None:
-        raise Refused(f"{path} isn't started")
-    return journal
 
 
-def write_whole(path, data):
-    """Writes a file under another name, and gives it its own once it is whole."""
+@contextlib.contextmanager
+def new_file(path):
+    """A file to be written, under another name until it is whole."""
     part = f"{path}.part"
     with open(part, "wb") as file:
-        file.write(data)
-        file.flush()
-        os.fsync(file.fileno())
+        try:
+            yield file
+            file.flush()
+            os.fsync(file.fileno())
+        except BaseException:
+            os.remove(part)
+            raise
     os.replace(part, path)
 
 
 def write_files(folder, files):
-    """Writes files into a folder, by their names and bytes."""
+    """Writes files into a folder, by their names and the parts of their bytes."""
     os.makedirs(folder, exist_ok=True)
-    for name, data in files.items():
-        write_whole(os.path.join(folder, name), data)
+    for name, parts in files.items():
+        with new_file(os.path.join(folder, name)) as file:
+            file.writelines(parts)

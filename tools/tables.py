@@ -2,7 +2,9 @@
 
 import argparse
 import csv
-import io
+import importlib
+import itertools
+import math
 import os
 import re
 import sys
@@ -15,6 +17,13 @@ NEEDED = ("mass", *POSITION, *VELOCITY)
 OPTIONAL = ("id", "out")
 UNITS = ("length", "mass", "time")
 PARAMETERS = ("grav", "theta", "soft", "leaf", "every", "edge")
+# A file of this size or more is read by numpy.
+BULK_BYTES = 2**20
+ROWS_AT_ONCE = 2**14
+
+
+def note(line):
+    print(f"bodies: {line}", file=sys.stderr)
 
 
 def check_columns(columns, place):
@@ -28,23 +37,37 @@ def check_columns(columns, place):
             raise Refused(f"{place}: the column {column} is missing")
 
 
-def csv_rows(path):
-    """The rows of a CSV file, each as its place and its texts by their columns."""
-    with open(path, newline="", encoding="utf-8-sig") as file:
-        rows = csv.reader(file)
-        columns = [column.strip() for column in next(rows, [])]
-        check_columns(columns, "line 1")
-        for row in rows:
-            if not row:
-                continue
-            place = f"line {rows.line_num}"
-            if len(row) != len(columns):
-                raise Refused(f"{place}: {len(row)} values stand where there are {len(columns)} columns")
-            yield place, dict(zip(columns, row))
+def open_csv(path):
+    """A CSV file to be read. Bytes that are no text become marks, which no number has."""
+    return open(path, newline="", encoding="utf-8-sig", errors="surrogateescape")
 
 
-def npy_rows(path):
-    """The rows of a .npy file: of an array with named fields, or with the needed columns in their order."""
+def csv_columns(rows):
+    """The names in the first row."""
+    columns = [column.strip() for column in next(rows, [])]
+    check_columns(columns, "line 1")
+    return columns
+
+
+def csv_rows(rows, columns, lines_before=0):
+    """The rows that a CSV reader gives, each as the number of its line and its texts by their columns."""
+    while True:
+        try:
+            row = next(rows)
+        except StopIteration:
+            return
+        except csv.Error as why:
+            raise Refused(f"line {lines_before + rows.line_num}: {why}") from None
+        if not row:
+            continue
+        number = lines_before + rows.line_num
+        if len(row) != len(columns):
+            raise Refused(f"line {number}: {len(row)} values stand where there are {len(columns)} columns")
+        yield number, dict(zip(columns, row))
+
+
+def open_npy(path):
+    """The array of a .npy file, with named fields or with the needed columns in their order, and its columns."""
     (numpy,) = require("numpy")
     try:
         array = numpy.load(path, allow_pickle=False)
@@ -54,9 +77,33 @@ def npy_rows(path):
     check_columns(columns, "its fields")
     if array.shape[1:] != (() if array.dtype.names else (len(NEEDED),)):
         raise Refused(f"{path} has the shape {array.shape}, and not rows of {', '.join(NEEDED)}")
-    for index, values in enumerate(array.tolist(), 1):
+    return array, columns
+
+
+def npy_rows(array, columns, records_before=0):
+    """The rows of an array, each as its number and its texts by their columns."""
+    for number, values in enumerate(array.tolist(), records_before + 1):
         texts = (str(int(v)) if isinstance(v, float) and v.is_integer() else str(v) for v in values)
-        yield f"record {index}", dict(zip(columns, texts))
+        yield number, dict(zip(columns, texts))
+
+
+def is_npy(path):
+    return path.endswith(".npy")
+
+
+def place_of(path, number):
+    """Where a row stands, for a reader."""
+    return f"{'record' if is_npy(path) else 'line'} {number}"
+
+
+def rows_of(path):
+    """The rows of a table, each as its number and its texts by their columns."""
+    if is_npy(path):
+        yield from npy_rows(*open_npy(path))
+        return
+    with open_csv(path) as file:
+        rows = csv.reader(file)
+        yield from csv_rows(rows, csv_columns(rows))
 
 
 def whole_body(texts):
@@ -86,19 +133,31 @@ def decimal_row(texts):
     return row
 
 
+def row_of(texts, index, reader):
+    """What a reader makes of the row with this index. Rows without an id are numbered from 1."""
+    return reader({"id": str(index + 1), "out": "0", **texts})
+
+
+def repeated(number, place):
+    return Refused(f"id {number} stands on {place} already")
+
+
+def too_many():
+    return Refused(f"there are more than {MOST_BODIES} bodies")
+
+
 def read_table(path, reader):
-    """What a reader makes of each row of a table, by rising id, each behind its place. Rows without an id are
-    numbered from 1."""
+    """What a reader makes of each row of a table, by rising id, each behind its place."""
     found, places = [], {}
-    for place, texts in (npy_rows if path.endswith(".npy") else csv_rows)(path):
-        texts = {"id": str(len(found) + 1), "out": "0", **texts}
+    for line, texts in rows_of(path):
+        place = place_of(path, line)
         try:
-            row = reader(texts)
+            row = row_of(texts, len(found), reader)
             number = row["id"] if isinstance(row, dict) else row.id
             if number in places:
-                raise Refused(f"id {number} stands on {places[number]} already")
+                raise repeated(number, places[number])
             if len(found) == MOST_BODIES:
-                raise Refused(f"there are more than {MOST_BODIES} bodies")
+                raise too_many()
         except Refused as why:
             raise Refused(f"{place}: {why}") from None
         found.append((number, place, row))
@@ -106,26 +165,92 @@ def read_table(path, reader):
     return [(place, row) for _, place, row in sorted(found, key=lambda each: each[0])]
 
 
-def csv_text(bodies, columns=Body._fields):
-    text = io.StringIO()
-    rows = csv.writer(text, lineterminator="\n")
-    rows.writerow(columns)
-    rows.writerows(bodies)
-    return text.getvalue()
+class Table:
+    """A table's bodies, read row by row."""
+
+    def __init__(self, path):
+        self.path = path
+
+    def whole(self):
+        """Its bodies, where its numbers are whole."""
+        return nbs.Bodies(body for _, body in read_table(self.path, whole_body))
+
+    def decimal(self):
+        """Its rows of numbers in units of its own."""
+        return units.Rows(read_table(self.path, decimal_row))
 
 
-def write_table(path, bodies, is_whole):
-    """Writes bodies to a .npy or CSV file, or without a path as CSV to standard output."""
-    if path is None:
-        sys.stdout.write(csv_text(bodies))
-    elif path.endswith(".npy"):
+def for_many(path):
+    """The module that reads a large file by numpy, or None for a small one, or where numpy is missing."""
+    if os.path.getsize(path) < BULK_BYTES:
+        return None
+    try:
+        require("numpy")
+    except Refused as why:
+        note(f"so many rows take long without numpy: {why}")
+        return None
+    return importlib.import_module("bulk")
+
+
+def table_at(path):
+    """A table's bodies, by numpy where they are many."""
+    bulk = for_many(path)
+    return bulk.Table(path) if bulk else Table(path)
+
+
+def npy_fields(is_whole):
+    """The fields of an array of bodies, in whole numbers or in units of the table."""
+    kinds = ("u8", "u4", *["u8"] * 3, *["i8"] * 3, "u4") if is_whole else ("u8", *["f8"] * 7, "u4")
+    return list(zip(Body._fields, kinds))
+
+
+class Rows:
+    """Bodies as the rows of a table that is to be written: in whole numbers, or in the table's units."""
+
+    def __init__(self, bodies, is_whole):
+        self.bodies, self.is_whole = bodies, is_whole
+
+    def __len__(self):
+        return len(self.bodies)
+
+    def __iter__(self):
+        return iter(self.bodies)
+
+    def array(self):
         (numpy,) = require("numpy")
-        kinds = ("u8", "u4", *["u8"] * 3, *["i8"] * 3, "u4") if is_whole else ("u8", *["f8"] * 7, "u4")
-        data = io.BytesIO()
-        numpy.save(data, numpy.array([tuple(body) for body in bodies], list(zip(Body._fields, kinds))))
-        nbs.write_whole(path, data.getvalue())
+        return numpy.array([tuple(body) for body in self.bodies], npy_fields(self.is_whole))
+
+
+def read_rows(path, scale):
+    """A snapshot's bodies as rows, in the units of a scale where there is one, and its time."""
+    bulk = for_many(path)
+    if bulk:
+        return bulk.read_rows(path, scale)
+    bodies, time = nbs.read_snapshot(path)
+    return Rows([units.unboxed(body, scale) for body in bodies] if scale else bodies, scale is None), time
+
+
+def csv_texts(rows):
+    """The text of a table of bodies, in parts that fit in memory. Numbers need no marks around them."""
+    line = ",".join(["%r"] * len(Body._fields)) + "\n"
+    yield ",".join(Body._fields) + "\n"
+    rows = iter(rows)
+    while text := "".join(line % row for row in itertools.islice(rows, ROWS_AT_ONCE)):
+        yield text
+
+
+def write_table(path, rows):
+    """Writes rows to a .npy or CSV file, or without a path as CSV to standard output."""
+    if path is None:
+        sys.stdout.writelines(csv_texts(rows))
+    elif is_npy(path):
+        (numpy,) = require("numpy")
+        array = rows.array()
+        with nbs.new_file(path) as file:
+            numpy.save(file, array)
     else:
-        nbs.write_whole(path, csv_text(bodies).encode())
+        with nbs.new_file(path) as file:
+            file.writelines(text.encode() for text in csv_texts(rows))
 
 
 def number(least, greatest):
@@ -157,6 +282,9 @@ def add_run_options(command):
     """The options of a command that makes a run's folder."""
     command.add_argument(
         "--at", type=number(0, 2**64 - 1), default=0, metavar="T", help="the bodies' time, in ticks (0)"
+    )
+    command.add_argument(
+        "--replace", action="store_true", help="write init.nbs also in a folder in which a run is started"
     )
     units_of = command.add_argument_group("units, with --units; what isn't given is chosen")
     units_of.add_argument(
@@ -196,17 +324,6 @@ def given_in(options, names):
     return {name: getattr(options, name) for name in names if getattr(options, name) is not None}
 
 
-def placed(rows, scale):
-    """The bodies of rows of numbers that stand behind their places."""
-    bodies = []
-    for place, row in rows:
-        try:
-            bodies.append(units.boxed(row, scale))
-        except Refused as why:
-            raise Refused(f"{place}: {why}") from None
-    return bodies
-
-
 def scaled_run(rows, options):
     """The bodies, the parameters that are set, the scale by the options, and the lines that tell of it."""
     table = units.table_of(options.units)
@@ -215,16 +332,14 @@ def scaled_run(rows, options):
         raise Refused("--grav can't be set with --units, which find it")
     given = {name: units.quantity(text, table, name) for name, text in given_in(options, UNITS).items()}
     theta = parameters.get("theta", USUAL["theta"])
-    numbers = [row for _, row in rows]
-    scale, grav, choice = units.fitted(table, numbers, given, theta, options.orbit)
+    scale, grav, choice = units.fitted(table, rows, given, theta, options.orbit)
     soft = parameters.get("soft", units.usual_soft(choice))
     if isinstance(soft, str):
         soft = max(1, round(units.quantity(soft, table, "length", "soft") / scale.length))
     if soft > RANGES["soft"][1]:
         raise Refused(f"--soft is {soft} box units, and has to be below the box's side")
-    bodies = placed(rows, scale)
-    lines = units.report_of(scale, grav, numbers, choice, soft)
-    return bodies, {**parameters, "grav": grav, "soft": soft}, scale, lines
+    lines = units.report_of(scale, grav, rows, choice, soft)
+    return rows.boxed(scale), {**parameters, "grav": grav, "soft": soft}, scale, lines
 
 
 def check_options(options, params, scale):
@@ -245,27 +360,48 @@ def check_options(options, params, scale):
         raise Refused(f"--soft {options.soft!r} is no whole number, and needs --units")
 
 
-def write_run(read, folder, options):
-    """Writes init.nbs, and where no parameters are there, params and with units units.json. `read` is called with
-    what makes a body of a row of whole numbers, or with decimal_row, and gives back each behind its place."""
+def check_folder(folder, may_replace):
+    """Refuses a folder in which a run is started."""
+    if nbs.is_started(folder) and not may_replace:
+        raise Refused(
+            f"a run is started in {folder}, and goes by its journal, not by init.nbs: take another folder, or "
+            f"--replace to write init.nbs there all the same"
+        )
+
+
+def note_usual_grav(mass):
+    """Says which grav is taken where none is set, and how far it reaches for bodies of this mass together."""
+    grav = USUAL["grav"]
+    note(
+        f"grav is {grav}, as neither --grav nor --units sets it: beyond {math.isqrt(grav * mass)} box units all "
+        f"bodies together pull by less than 1 box unit a tick, which is no force"
+    )
+
+
+def write_run(table, folder, options):
+    """Writes init.nbs, and where no parameters are there, params and with units units.json. The bodies are those of
+    the table, in whole numbers or by a scale."""
+    check_folder(folder, options.replace)
     params = os.path.join(folder, "params")
     scale = units.scale_in(folder)
     check_options(options, params, scale)
-    parameters, lines = given_in(options, PARAMETERS), []
+    parameters, lines, new_scale = given_in(options, PARAMETERS), [], None
     if options.units:
-        bodies, parameters, new_scale, lines = scaled_run(read(decimal_row), options)
+        bodies, parameters, new_scale, lines = scaled_run(table.decimal(), options)
     elif scale and not options.whole:
-        bodies, new_scale = placed(read(decimal_row), scale), None
+        bodies = table.decimal().boxed(scale)
     else:
-        bodies, new_scale = [body for _, body in read(whole_body)], None
+        bodies = table.whole()
     files = {}
     if new_scale:
-        files[units.FILE] = units.text_of(new_scale).encode()
+        files[units.FILE] = [units.text_of(new_scale).encode()]
     if not os.path.exists(params):
-        files["params"] = nbs.params_of(parameters, sum(body.mass for body in bodies)).encode()
-    files["init.nbs"] = nbs.snapshot_of(bodies, options.at)
+        files["params"] = [nbs.params_of(parameters, bodies.mass).encode()]
+    files["init.nbs"] = bodies.snapshot(options.at)
     # In this order, so that no run is without the units of its bodies, also where the tool is stopped in between.
     nbs.write_files(folder, files)
     names = sorted(files)
     wrote = " and ".join(filter(None, (", ".join(names[:-1]), names[-1])))
     print("\n".join([f"{len(bodies)} bodies at time {options.at}; wrote {wrote}", *lines]))
+    if "params" in files and "grav" not in parameters:
+        note_usual_grav(bodies.mass)

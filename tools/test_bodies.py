@@ -1,9 +1,13 @@
 """Tests of tools/bodies: `python3 tools/test_bodies.py`. Bytes are written by hand, from docs/FORMATS.md."""
 
 import os
+import subprocess
+import sys
 import unittest
 
-from tool_test import ToolTest, bytes_of, tool
+from tool_test import TOOLS, ToolTest, bytes_of, tool
+
+import nbs
 
 # The snapshot of docs/FORMATS.md: one body, id 7, mass 3, at (5, 5, 5), velocity (1, 0, 0), at time 0.
 ONE = """
@@ -48,7 +52,12 @@ class Bodies(ToolTest):
         self.assertFalse(os.path.exists(self.path("run")))
 
     def test_one_body(self):
-        done = (0, "1 bodies at time 0; wrote init.nbs and params\n", "")
+        # The root of 3 * 10^9 is 54772.3.
+        note = (
+            "bodies: grav is 1000000000, as neither --grav nor --units sets it: beyond 54772 box units all bodies "
+            "together pull by less than 1 box unit a tick, which is no force\n"
+        )
+        done = (0, "1 bodies at time 0; wrote init.nbs and params\n", note)
         self.assertEqual(self.from_csv("id,mass,x,y,z,vx,vy,vz\n7,3,5,5,5,1,0,0\n"), done)
         self.assertEqual(self.read("run/init.nbs"), bytes_of(ONE))
         self.assertEqual(self.read("run/params"), USUAL.encode())
@@ -95,6 +104,59 @@ class Bodies(ToolTest):
         why = f"bodies: {self.path('run/params')} is there, so no option can set a parameter\n"
         self.assertEqual(self.from_csv(row.replace("1,0", "2,0"), "--soft", "2"), (1, "", why))
         self.assertEqual((self.read("run/params"), self.read("run/init.nbs")), (b"mine", before))
+
+    def test_grav_that_is_set(self):
+        """Then nothing is told of it, nor where `params` has it already."""
+        row = "mass,x,y,z,vx,vy,vz\n1,0,0,0,0,0,0\n"
+        done = (0, "1 bodies at time 0; wrote init.nbs and params\n", "")
+        self.assertEqual(self.from_csv(row, "--grav", "1000000000"), done)
+        self.assertEqual(self.from_csv(row), (0, "1 bodies at time 0; wrote init.nbs\n", ""))
+
+    def test_a_folder_in_which_a_run_is_started(self):
+        """Its journal has the gate `S` and more than 4096 bytes."""
+        row = "mass,x,y,z,vx,vy,vz\n1,0,0,0,0,0,0\n"
+        self.write("run/journal", b"S" + b"\0" * 4096)
+        self.write("run/init.nbs", b"the first")
+        why = (
+            f"bodies: a run is started in {self.path('run')}, and goes by its journal, not by init.nbs: take another "
+            f"folder, or --replace to write init.nbs there all the same\n"
+        )
+        self.assertEqual(self.from_csv(row), (1, "", why))
+        self.assertEqual(self.read("run/init.nbs"), b"the first")
+        self.assertEqual(sorted(os.listdir(self.path("run"))), ["init.nbs", "journal"])
+        self.assertEqual(self.from_csv(row, "--replace")[0], 0)
+        self.assertEqual(self.read("run/init.nbs")[:8], b"FNBSNAP1")
+
+    def test_a_folder_in_which_none_is_started(self):
+        row = "mass,x,y,z,vx,vy,vz\n1,0,0,0,0,0,0\n"
+        for journal in (b"", b"S" + b"\0" * 4095, b"\0" * 8192):
+            self.write("run/journal", journal)
+            self.assertEqual(self.from_csv(row)[0], 0)
+            self.assertEqual(self.read("run/journal"), journal)
+
+    def test_missing_files(self):
+        self.write("table.csv", b"mass,x,y,z,vx,vy,vz\n")
+        for words, name, why in (
+            (("from", "none.csv", "run"), "none.csv", "isn't there"),
+            (("from", "", "run"), "", "is a folder, and has to be a file"),
+            (("from", "table.csv", "table.csv"), "table.csv", "is there, and is no folder"),
+            (("to", "none.nbs"), "none.nbs", "isn't there"),
+        ):
+            with self.subTest(words=words):
+                told = f"bodies: {self.path(name)} {why}\n"
+                found = self.run_tool(words[0], *(self.path(word) for word in words[1:]))
+                self.assertEqual(found, (1, "", told))
+
+    def test_lines_that_are_no_text(self):
+        """In the header, in a row, and in a row whose quotes have no end."""
+        self.write("table.csv", b"mass,\xff\n")
+        words = ("from", self.path("table.csv"), self.path("run"))
+        self.assertIn("bodies: line 1: there is no column '\\udcff'", self.run_tool(*words)[2])
+        head, row = b"mass,x,y,z,vx,vy,vz\n", b"1,0,0,0,0,0,0\n"
+        self.write("table.csv", head + row + b"1,0,0,0,0,0,\xff\n")
+        self.assertEqual(self.run_tool(*words)[2], "bodies: line 3: vz is '\\udcff', which is no whole number\n")
+        self.write("table.csv", head + row + b'1,0,0,0,0,0,"' + b"0" * 200000)
+        self.assertIn("bodies: line 3: field larger than field limit", self.run_tool(*words)[2])
 
     def test_bad_lines(self):
         good = "id,mass,x,y,z,vx,vy,vz,out\n1,1,0,0,0,0,0,0,0\n"
@@ -154,6 +216,16 @@ class Bodies(ToolTest):
         self.write("bad.nbs", data)
         path = self.path("bad.nbs")
         self.assertEqual(self.run_tool("to", path), (1, "", f"bodies: {path} is no snapshot: {why}\n"))
+
+    def test_a_reader_that_wants_no_more(self):
+        """Of 2000 rows, which a pipe doesn't hold, it takes one."""
+        self.write("many.nbs", nbs.snapshot_of([nbs.Body(i, 1, *[2**39] * 6, 0) for i in range(2000)], 0))
+        words = [sys.executable, os.path.join(TOOLS, "bodies"), "to", self.path("many.nbs")]
+        with subprocess.Popen(words, stdout=subprocess.PIPE, stderr=subprocess.PIPE) as running:
+            self.assertEqual(running.stdout.readline(), b"id,mass,x,y,z,vx,vy,vz,out\n")
+            running.stdout.close()
+            self.assertEqual(running.stderr.read(), b"")
+        self.assertEqual(running.returncode, 1)
 
     def test_bad_words(self):
         for words in ("", "to", "from x", "from x y --leaf 33", "from x y --theta 1", "from x y --edge both"):

@@ -54,9 +54,10 @@ class Check(ToolTest):
         # -2 * 1000 * 2 * 3 / sqrt(3^2 + 4^2 + 12^2)
         self.assertAlmostEqual(float(first["potential"]), -12000 / 13, places=2)
         self.assertEqual([row["drift of momentum"] for row in rows[:2]], ["0.00e+00", "0.00e+00"])
-        # 8 / sqrt(5 * 173), and 106 / 2 over 12000 / 13 - 67 / 2
+        # 8 / sqrt(5 * 173). About the centre of mass the 67 and 173 are 67 - 137 / 5 and 173 - 217 / 5, so 39.6 and
+        # 129.6: the change is 90 / 2, over 12000 / 13 - 39.6 / 2.
         self.assertAlmostEqual(float(last["drift of momentum"]), 0.2720, places=3)
-        self.assertAlmostEqual(float(last["drift of energy"]), 53 / (12000 / 13 - 33.5), places=3)
+        self.assertAlmostEqual(float(last["drift of energy"]), 45 / (12000 / 13 - 19.8), places=3)
 
     @needs("numpy")
     def test_a_box_that_wraps(self):
@@ -90,6 +91,19 @@ class Check(ToolTest):
         status, out, err = self.run_tool("--most", "2", self.path("run"))
         self.assertEqual((status, err), (0, "check: no potential: 3 bodies are more than --most 2\n"))
         self.assertEqual(len({len(line) for line in out.splitlines()}), 1)
+
+    def test_unfinished_snapshots(self):
+        """What nbody leaves under a tick's name that it has emptied, or while it writes, is passed over."""
+        self.write_run()
+        before = self.run_tool("--most", "0", "--csv", self.path("run"))
+        self.write("run/snap.11.nbs", b"")
+        self.write("run/snap.12.nbs", b"\0" + nbs.snapshot_of(BEFORE, 17)[1:])
+        names = [self.path(f"run/snap.{number}.nbs") for number in (11, 12)]
+        notes = "".join(f"check: {name} isn't finished, and is passed over\n" for name in names)
+        found = self.run_tool("--most", "0", "--csv", self.path("run"))
+        self.assertEqual(found, (0, before[1], before[2] + notes))
+        why = "check: there is no finished snapshot\n"
+        self.assertEqual(self.run_tool(*names), (1, "", notes + why))
 
     def test_refusals(self):
         self.write_run()

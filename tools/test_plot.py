@@ -1,8 +1,13 @@
 """Tests of tools/plot and of the journal that it reads, on files that are written here."""
 
+import contextlib
+import io
 import os
 import random
+import resource
+import shutil
 import stat
+import subprocess
 import unittest
 from unittest import mock
 
@@ -196,12 +201,30 @@ class Plot(ToolTest):
         # 7 ticks of a parsec over a kilometre a second, 0.97779 Myr
         self.assertEqual(found.when, "time 6.845Myr")
 
+    def test_bodies_that_move_together(self):
+        """By ten times what they are across: a picture that follows them is the first one again."""
+        self.write("run/init.nbs", nbs.snapshot_of(self.bodies(), 0))
+        self.write("run/snap.5.nbs", nbs.snapshot_of(self.bodies(60000000), 0))
+        first, last = (self.tool.Snapshot(self.path(f"run/{name}")) for name in ("init.nbs", "snap.5.nbs"))
+        for follow, reach, said in ((False, 60000000, "--follow keeps them in the middle"), (True, 0, "")):
+            words = ["panels", self.path("run"), *(["--follow"] if follow else [])]
+            with contextlib.redirect_stderr(io.StringIO()) as err:
+                _, centre, found = self.tool.view_of([first, last], self.tool.options_of(words))
+            self.assertIn(said, err.getvalue())
+            self.assertEqual((centre is None, err.getvalue() == ""), (follow, follow))
+            self.assertAlmostEqual(found, 1.15 * reach + first.reach([0, 1], first.centre), delta=3000000)
+            self.assertEqual(self.run_tool(*words)[0], 0)
+        for name, shown in (("a", "init"), ("b", "snap.5")):
+            self.run_tool("picture", self.path(f"run/{shown}.nbs"), "--follow", "--out", self.path(f"{name}.png"))
+        self.assertTrue((self.pixels("a.png") == self.pixels("b.png")).all())
+
     def test_frames(self):
         self.write_run(9, 10, 11)
         with mock.patch.dict(os.environ, {"PATH": self.room}):
             status, out, err = self.run_tool("film", self.path("run"))
         told = f"wrote 4 frames in {self.path('run/frames')}\nwrote {self.path('run/film.gif')}\n"
-        self.assertEqual((status, out, err), (0, told, ""))
+        fallback = "plot: there is no ffmpeg, so the film is a GIF: apt-get install -y ffmpeg, for a smaller .mp4\n"
+        self.assertEqual((status, out, err), (0, told, fallback))
         self.assertEqual(
             sorted(os.listdir(self.path("run/frames"))), [f"frame.0000{index}.png" for index in range(4)]
         )
@@ -210,24 +233,74 @@ class Plot(ToolTest):
         self.assertEqual(first.shape, last.shape)
         self.assertGreater(abs(first - last).max(), 0.5)
 
-    def test_a_film_by_ffmpeg(self):
+    def test_the_words_for_ffmpeg(self):
+        """A script stands for it, which keeps its words, and fails where `broken` is."""
         self.write_run(1)
-        self.write("bin/ffmpeg", b'#!/bin/sh\necho "$@" >"${0%/*}/words"\n[ ! -e "${0%/*}/broken" ]\n')
+        script = b'#!/bin/sh\necho "$@" >"${0%/*}/words"\nfor last; do :; done\n: >"${last#file:}"\necho why >&2\n'
+        self.write("bin/ffmpeg", script + b'[ ! -e "${0%/*}/broken" ]\n')
         os.chmod(self.path("bin/ffmpeg"), stat.S_IRWXU)
         with mock.patch.dict(os.environ, {"PATH": self.path("bin") + ":" + os.environ["PATH"]}):
-            status, out, _ = self.run_tool("film", self.path("run"), "--rate", "5")
-            self.assertEqual((status, out.splitlines()[-1]), (0, f"wrote {self.path('run/film.mp4')}"))
+            status, out, err = self.run_tool("film", self.path("run"), "--rate", "5")
+            self.assertEqual((status, out.splitlines()[-1], err), (0, f"wrote {self.path('run/film.mp4')}", ""))
             words = self.read("bin/words").decode().split()
             self.assertEqual(words[words.index("-framerate") + 1], "5")
-            self.assertEqual(words[words.index("-i") + 1], self.path("run/frames/frame.%05d.png"))
-        with mock.patch.dict(os.environ, {"PATH": self.room}):
-            words = ("film", self.path("run"), "--out", self.path("x.mp4"))
-            self.assertIn("there is no ffmpeg to make ", self.run_tool(*words)[2])
-        with mock.patch.dict(os.environ, {"PATH": self.path("bin") + ":" + os.environ["PATH"]}):
+            self.assertEqual(words[words.index("-i") + 1], f"file:{self.path('run/frames/frame.%05d.png')}")
             self.write("bin/broken", b"")
-            self.assertEqual(
-                self.run_tool("film", self.path("run"))[2], "plot: ffmpeg made no film: it ended with 1\n"
-            )
+            os.remove(self.path("run/film.mp4"))
+            why = "plot: ffmpeg made no film: it ended with 1 and said: why\n"
+            self.assertEqual(self.run_tool("film", self.path("run"))[2], why)
+            self.assertEqual([name for name in os.listdir(self.path("run")) if "film" in name], [])
+
+    def test_no_film(self):
+        """Told before frames are drawn."""
+        self.write_run(1)
+        with mock.patch.dict(os.environ, {"PATH": self.room}):
+            for name, why in (
+                ("x.mp4", "there is no ffmpeg to make {}: apt-get install -y ffmpeg, or --out film.gif"),
+                ("x.txt", "{} is no film's name: it has to end in .mp4, .mkv, .mov or .gif"),
+                ("none/x.gif", f"there is no folder {self.path('none')} for {{}}"),
+            ):
+                with self.subTest(name=name):
+                    words = ("film", self.path("run"), "--out", self.path(name))
+                    self.assertEqual(self.run_tool(*words), (1, "", f"plot: {why.format(self.path(name))}\n"))
+                    self.assertFalse(os.path.exists(self.path("run/frames")))
+
+    def test_a_gif_of_more_frames_than_open_files(self):
+        """Each has a grey of its own, so that no two are drawn together."""
+        from PIL import Image
+
+        names = [self.path(f"{index}.png") for index in range(100)]
+        for index, name in enumerate(names):
+            Image.new("L", (4, 4), index).save(name)
+        soft, hard = resource.getrlimit(resource.RLIMIT_NOFILE)
+        self.addCleanup(resource.setrlimit, resource.RLIMIT_NOFILE, (soft, hard))
+        resource.setrlimit(resource.RLIMIT_NOFILE, (60, hard))
+        self.tool.write_gif(names, self.path("film.gif"), 20)
+        with Image.open(self.path("film.gif")) as made:
+            self.assertEqual((made.n_frames, made.info["duration"]), (100, 50))
+
+    @unittest.skipUnless(shutil.which("ffmpeg"), "ffmpeg missing: apt-get install -y ffmpeg")
+    def test_a_film_by_ffmpeg(self):
+        """Its frames are the pictures in their order, but for what its compression loses. A folder may have a % in
+        its name."""
+        import numpy
+
+        self.write_run(9, 10, 11)
+        os.rename(self.path("run"), self.path("50%d run"))
+        film = self.path("50%d run/film.mp4")
+        status, out, err = self.run_tool("film", self.path("50%d run"), "--rate", "5")
+        self.assertEqual((status, out.splitlines()[-1], err), (0, f"wrote {film}", ""))
+        told = subprocess.run(["ffmpeg", "-i", film], stderr=subprocess.PIPE, text=True).stderr
+        self.assertRegex(told, r"Video: .*yuv420p.* 600x600.* 5 fps")
+        words = ["ffmpeg", "-v", "error", "-i", film, "-f", "rawvideo", "-pix_fmt", "rgb24", "-"]
+        raw = subprocess.run(words, stdout=subprocess.PIPE, check=True).stdout
+        shown = numpy.frombuffer(raw, "u1").reshape(-1, 600, 600, 3) / 255
+        self.assertEqual(len(shown), 4)
+        drawn = [self.pixels(f"50%d run/frames/frame.0000{index}.png") for index in range(4)]
+        for index, picture in enumerate(shown):
+            off = [abs(picture - other).mean() for other in drawn]
+            self.assertEqual(off.index(min(off)), index)
+            self.assertLess(min(off), 0.02)
 
     def test_a_journal(self):
         self.write("run/journal", page_0() + pages(leg(12), tick(1, 1), tick(2, 2), leg(9), tick(3, 2)))
@@ -246,16 +319,46 @@ class Plot(ToolTest):
                     path = self.path("run/init.nbs" if command == "picture" else "run")
                     self.assertEqual(self.run_tool(command, path)[0], 0)
 
+    def test_unfinished_snapshots(self):
+        """An empty one, and one that is being written, are passed over, but not where it is the one to show."""
+        self.write_run(5)
+        self.write("run/snap.6.nbs", b"")
+        self.write("run/snap.7.nbs", b"\0" + nbs.snapshot_of(self.bodies(), 7)[1:])
+        notes = "".join(
+            f"plot: {self.path(name)} isn't finished, and is passed over\n"
+            for name in ("run/snap.6.nbs", "run/snap.7.nbs")
+        )
+        for command in ("panels", "shells", "profile"):
+            self.assertEqual(
+                self.run_tool(command, self.path("run")), (0, f"wrote {self.path(f'run/{command}.png')}\n", notes)
+            )
+        for name, why in (("run/snap.6.nbs", "short"), ("run/snap.7.nbs", "unfinished")):
+            told = f"plot: {self.path(name)} is no snapshot: {why}\n"
+            self.assertEqual(self.run_tool("picture", self.path(name)), (1, "", told))
+
     def test_refusals(self):
         self.write("run/init.nbs", b"FNBSNAP1")
         why = f"plot: {self.path('run/init.nbs')} is no snapshot: short\n"
         self.assertEqual(self.run_tool("picture", self.path("run/init.nbs")), (1, "", why))
         self.assertEqual(self.run_tool("panels", self.path("run")), (1, "", why))
-        self.assertEqual(self.run_tool("shells", self.path("none"))[0], 1)
+        for words, why in (
+            (("picture", "none.nbs"), "{} isn't there"),
+            (("picture", "run"), "{} is a folder, and has to be a file"),
+            (("panels", "none"), "{} isn't there"),
+            (("shells", "run/init.nbs"), "{} is no folder"),
+            (("profile", "none.nbs"), "{} isn't there"),
+            (("journal", "none"), "{} is no folder"),
+            (("journal", "run"), "no run is started in {}"),
+        ):
+            with self.subTest(words=words):
+                path = self.path(words[1])
+                self.assertEqual(self.run_tool(words[0], path), (1, "", f"plot: {why.format(path)}\n"))
+        why = f"plot: {self.path('x.jpg')} is no picture's name: it has to end in .png\n"
+        words = ("picture", self.path("run/init.nbs"), "--out", self.path("x.jpg"))
+        self.assertEqual(self.run_tool(*words), (1, "", why))
         self.write("run/journal", page_0())
-        self.assertEqual(
-            self.run_tool("journal", self.path("run"))[2], f"plot: {self.path('run/journal')} isn't started\n"
-        )
+        why = f"plot: no run is started in {self.path('run')}\n"
+        self.assertEqual(self.run_tool("journal", self.path("run"))[2], why)
         self.write("run/journal", page_0() + pages(tick(1, 1)))
         self.assertEqual(
             self.run_tool("journal", self.path("run"))[2],

@@ -113,7 +113,9 @@ def shown(value, table, kind):
 
 
 def distance(row, point):
-    return math.sqrt(sum((row[name] - at) ** 2 for name, at in zip(POSITION, point)))
+    """Of finite numbers it may be infinite, and is then too far for any choice."""
+    x, y, z = (row[name] - at for name, at in zip(POSITION, point))
+    return math.sqrt(x * x + y * y + z * z)
 
 
 def pulls_on_a_body(count, theta):
@@ -138,26 +140,82 @@ def median_of(values):
     return value
 
 
-def system_of(rows, theta):
-    """What the choice of units needs to know of rows of bodies, which are numbers by their columns."""
-    inside = [row for row in rows if not row["out"]]
-    if not inside:
-        raise Refused("there are no bodies to choose units for")
-    mass = sum(row["mass"] for row in rows)
-    lightest, greatest = min(row["mass"] for row in rows), max(row["mass"] for row in rows)
-    multiples = [row["mass"] / lightest for row in rows]
-    whole = all(abs(m - round(m)) < 1e-9 * m for m in multiples) and max(multiples) <= HEAVIEST
-    shared = (len(inside), mass, lightest, greatest, whole)
-    heaviest = max(inside, key=lambda row: row["mass"])
-    if 2 * heaviest["mass"] >= mass:
-        middle = [heaviest[name] for name in POSITION]
-        away = [(distance(row, middle), row["mass"]) for row in inside]
+class Rows:
+    """Rows of numbers by their columns, each behind its place, and what a choice of units asks of them. bulk.py has
+    the same of arrays, with the same sums in the same order, so that no bit of the choice differs."""
+
+    def __init__(self, placed):
+        self.placed = placed
+        self.rows = [row for _, row in placed]
+        self.inside = [row for row in self.rows if not row["out"]]
+
+    @property
+    def count_inside(self):
+        return len(self.inside)
+
+    def masses(self):
+        """Of all together, of the lightest and of the heaviest."""
+        masses = [row["mass"] for row in self.rows]
+        return sum(masses), min(masses), max(masses)
+
+    def are_multiples(self, mass):
+        """Whether all masses are whole multiples of one, as far as a body's mass goes."""
+        multiples = [row["mass"] / mass for row in self.rows]
+        return max(multiples) <= HEAVIEST and all(abs(m - round(m)) < 1e-9 * m for m in multiples)
+
+    def heaviest(self):
+        """The mass of the heaviest body in the box, and where it is."""
+        row = max(self.inside, key=lambda row: row["mass"])
+        return row["mass"], [row[name] for name in POSITION]
+
+    def middle(self):
+        return [median_of([(row[name], row["mass"]) for row in self.inside]) for name in POSITION]
+
+    def half_mass_radius(self, middle):
+        return median_of([(distance(row, middle), row["mass"]) for row in self.inside])
+
+    def median_radius(self, middle):
+        """The median distance of all bodies but the nearest, and the mass within it."""
+        away = [(distance(row, middle), row["mass"]) for row in self.inside]
         radius = median_of([(length, 1) for length, _ in sorted(away)[1:]] or [(0.0, 1)])
-        within = sum(each for length, each in away if length <= radius)
-        return System(*shared, radius, within, heaviest["mass"], True, middle)
-    middle = [median_of([(row[name], row["mass"]) for row in inside]) for name in POSITION]
-    radius = median_of([(distance(row, middle), row["mass"]) for row in inside])
-    return System(*shared, radius, mass / 2, mass / pulls_on_a_body(len(inside), theta), False, middle)
+        return radius, sum(mass for length, mass in away if length <= radius)
+
+    def whole_mass(self, unit):
+        """All masses together, each rounded to whole units."""
+        return sum(round(row["mass"] / unit) for row in self.rows)
+
+    def rounding(self, unit):
+        """The greatest part of its mass by which a mass is changed then."""
+        return max(abs(round(row["mass"] / unit) / (row["mass"] / unit) - 1) for row in self.rows)
+
+    def boxed(self, scale):
+        """The bodies by a scale."""
+        bodies = nbs.Bodies()
+        for place, row in self.placed:
+            try:
+                bodies.append(boxed(row, scale))
+            except Refused as why:
+                raise Refused(f"{place}: {why}") from None
+        return bodies
+
+
+def system_of(rows, theta):
+    """What the choice of units needs to know of rows of bodies."""
+    if rows.count_inside == 0:
+        raise Refused("there are no bodies to choose units for")
+    mass, lightest, greatest = rows.masses()
+    shared = (rows.count_inside, mass, lightest, greatest, rows.are_multiples(lightest))
+    leader, middle = rows.heaviest()
+    if 2 * leader >= mass:
+        radius, inside = rows.median_radius(middle)
+        system = System(*shared, radius, inside, leader, True, middle)
+    else:
+        middle = rows.middle()
+        pulling = mass / pulls_on_a_body(rows.count_inside, theta)
+        system = System(*shared, rows.half_mass_radius(middle), mass / 2, pulling, False, middle)
+    if not (math.isfinite(system.mass) and math.isfinite(system.radius)):
+        raise OverflowError
+    return system
 
 
 class Choice:
@@ -310,14 +368,22 @@ def check_masses(table, system, mass, grav):
 
 def fitted(table, rows, given, theta, orbit_ticks):
     """The scale, grav and the choice for rows of bodies. `given` has the length, mass and time of options."""
-    system = system_of(rows, theta)
-    choice = chosen(table, system, given.get("length"), given.get("time"), orbit_ticks)
+    try:
+        system = system_of(rows, theta)
+        choice = chosen(table, system, given.get("length"), given.get("time"), orbit_ticks)
+        return scaled(table, rows, given, choice)
+    except (OverflowError, ZeroDivisionError):
+        raise Refused("masses, positions or units are too large or too small to choose by") from None
+
+
+def scaled(table, rows, given, choice):
+    """The scale, grav and the choice, once that is right and grav is whole."""
+    system = choice.system
     check_forces(table, choice)
     mass = given.get("mass") or mass_unit(system, choice.gm)
     exact = choice.gm * mass / system.mass
     check_masses(table, system, mass, exact)
-    total = sum(round(row["mass"] / mass) for row in rows)
-    grav = min(max(1, round(exact)), (GM_LIMIT - 1) // total)
+    grav = min(max(1, round(exact)), (GM_LIMIT - 1) // rows.whole_mass(mass))
     # What isn't given takes up the rounding of grav, so that none is left.
     if "time" not in given:
         choice = choice.at(time=choice.time * math.sqrt(grav / exact))
@@ -332,7 +398,7 @@ def report_of(scale, grav, rows, choice, soft):
     table, system = scale.table, choice.system
     length = shown(scale.length, table, "length")
     mass, time = shown(scale.mass, table, "mass"), shown(scale.tick, table, "time")
-    gm = grav * sum(round(row["mass"] / scale.mass) for row in rows)
+    gm = grav * rows.whole_mass(scale.mass)
     lines = [
         f"one unit: --length {length} --mass {mass} --time {time}",
         f"box: {shown(scale.length * nbs.BOX_SIDE, table, 'length')} across",
@@ -356,7 +422,7 @@ def report_of(scale, grav, rows, choice, soft):
     error = grav / (choice.gm * scale.mass / system.mass) - 1
     if abs(error) > BAD_ROUNDING:
         lines.append(f"rounding grav changes all forces by {100 * error:.2g} %: by a larger --mass less")
-    error = max(abs(round(row["mass"] / scale.mass) / (row["mass"] / scale.mass) - 1) for row in rows)
+    error = rows.rounding(scale.mass)
     if error > BAD_ROUNDING:
         lines.append(f"rounding masses changes them by up to {100 * error:.2g} %: by a smaller --mass less")
     return lines
@@ -371,20 +437,27 @@ def usual_soft(choice):
     return max(1, round(max(choice.speed, apart / 4)))
 
 
+def nearest(value):
+    """The nearest whole number. An infinite one stays, and is outside every range."""
+    return round(value) if math.isfinite(value) else value
+
+
 def boxed(row, scale):
     """The body of a row of numbers. A refusal says which value has no place in the box."""
-    values = {"id": row["id"], "out": row["out"], "mass": round(row["mass"] / scale.mass)}
+    values = {"id": row["id"], "out": row["out"], "mass": nearest(row["mass"] / scale.mass)}
     for name, middle in zip(POSITION, scale.middle):
-        values[name] = round((row[name] - middle) / scale.length) + MIDDLE
+        values[name] = nearest((row[name] - middle) / scale.length) + MIDDLE
         if not 0 <= values[name] < nbs.BOX_SIDE:
             least = shown(abs(row[name] - middle) / (MIDDLE - 1), scale.table, "length")
             raise Refused(f"{name} is {row[name]}, outside the box: --length has to be at least {least}")
     for name in VELOCITY:
-        values[name] = round(row[name] / scale.velocity)
+        values[name] = nearest(row[name] / scale.velocity)
     for name, value in values.items():
         least, greatest = nbs.range_of(name, values["out"])
         if not least <= value <= greatest:
-            raise Refused(f"{name} is {value} in nbody's units, and has to be from {least} to {greatest}")
+            raise Refused(
+                f"{name} is {row[name]}, {value:.4g} in nbody's units, and has to be from {least} to {greatest}"
+            )
     return Body(**values)
 
 
