@@ -21,9 +21,10 @@ pub use Rattle.nb_engine.proofs.SameSnapshots.{finished_bytes}
 pub use Rattle.nb_engine.proofs.Played.{history-played}
 -- images of calls that begin where what reads is durable
 pub use Rattle.nb_engine.proofs.EachImages.{leads_from_durable, durable_said}
--- what acknowledges no tick
+-- what acknowledges no tick, and which ticks the lines of a session do
+pub use Rattle.nb_engine.proofs.Acknowledging.{IsSmall, small_log, LineTellsOne, told_goes}
 pub use Rattle.nb_engine.proofs.OtherLines.{told_other}
-pub use Rattle.nb_engine.proofs.OtherTexts.{append_is_other, once_is_other, started_is_other, done_is_other, folder_is_other, params_are_other}
+pub use Rattle.nb_engine.proofs.OtherTexts.{append_is_other, once_is_other, started_is_other, done_is_other, folder_is_other, made_is_other, demo_is_other, params_are_other}
 -- a run that was started
 pub use Rattle.nb_engine.proofs.Started.{started_history}
 -- what a reader of a snapshot has given so far

@@ -1,5 +1,5 @@
 -- A session that adds a leg and runs it, from its begin to its end.
-use Rattle.std.proofs.Common.{◌≡◌, ◌≢◌, ℕ, zero, suc, ◌≤◌, inl, inr, IsTrue, List, [], ◌∷◌, ◌++◌, length, refl, sym, ap, subst, ◌∙◌, arith}
+use Rattle.std.proofs.Common.{◌≡◌, ◌≢◌, ℕ, zero, suc, ◌⊎◌, inl, inr, IsTrue, List, [], ◌∷◌, refl, sym, ap, subst, ◌∙◌, arith}
 use Rattle.std.specs.Prelude.{Contains}
 use Rattle.std.proofs.lemmas.Bool.{cases_eq}
 use Rattle.nb_host.specs.declared.host.Channel.{Channel}
@@ -10,7 +10,6 @@ use Rattle.nb_host.specs.Meaning.{HostModel, Leads, IsDurable}
 use Rattle.nb_host.proofs.Callers.{leads_more, leads_then, becomes_agrees}
 use Rattle.nb_cache.specs.View.{CacheValue}
 use Rattle.nb_cache.proofs.Callers.{step_file}
-use Rattle.nb_format.specs.Snapshot.{IsFinishedSnapshot}
 use Rattle.nb_journal.specs.Counters.{Counters, Answers, counters_after}
 use Rattle.nb_journal.specs.declared.entry.Entry.TheVariants.{Leg}
 use Rattle.nb_journal.specs.Entries.{IsNextLeg}
@@ -24,14 +23,17 @@ use Rattle.nb_engine.specs.declared.going.Done.{Done}
 use Rattle.nb_engine.specs.declared.refusal.Refusal.{Refusal}
 use Rattle.nb_engine.specs.declared.refusal.Refusal.TheVariants as refusal
 use Rattle.nb_engine.specs.Frame.{EachImage, IsApart, KeepsApart}
-use Rattle.nb_engine.specs.Histories.{History, run_of, ticks_of, IsHistory, legged}
-use Rattle.nb_engine.specs.Represents.{snap_of, RepresentsHistory}
-use Rattle.nb_engine.specs.Sessions.{ticks_left, aimed_at, ticks_to, IsLed, OpenLeads, GoLeads, IsNoLeg, CanGo, IsSlotSpoilt}
+use Rattle.nb_engine.specs.Histories.{History, IsHistory, legged}
+use Rattle.nb_engine.specs.Represents.{RepresentsRun}
+use Rattle.nb_engine.specs.Refusal.{NeedsNoCause}
+use Rattle.nb_engine.specs.Sessions.{ticks_left, aimed_at, ticks_to, IsLed, OpenLeads, GoLeads, IsNoLeg, IsOfLeg, CanGo, IsSlotSpoilt}
+use Rattle.nb_engine.specs.Shown.{IsOfShow}
 use Rattle.nb_engine.specs.Snapshots.{snapshot_files}
-use Rattle.nb_engine.specs.Steps.{lines_behind, played, IsAt, IsSettled, GoesOn, HasPlayed, IsUpToDate, HasState, IsSpoilt}
+use Rattle.nb_engine.specs.Steps.{played, IsAt, IsSettled, GoesOn, HasPlayed, IsUpToDate, HasState, IsSpoilt}
 use Rattle.nb_engine.proofs.EachImages.{each_then, each_told}
-use Rattle.nb_engine.proofs.GoingOn.{IsStanding, Went, go_on, leg_each, leg_at, leg_date, leg_kept, leg_said, leg_goes}
-use Rattle.nb_engine.proofs.Led.{led, led_here, led_away, left_of_leg}
+use Rattle.nb_engine.proofs.GoingOn.{IsStanding, Went, go_on, leg_each, leg_at, leg_date, leg_kept, leg_others, leg_said, leg_goes}
+use Rattle.nb_engine.proofs.Led.{SnapshotIsBack, led, led_here, led_away, left_of_leg}
+use Rattle.nb_engine.proofs.Played.{played_from}
 
 -- ---- steps
 
@@ -75,6 +77,21 @@ pub no_leg_steady : (target : ℕ) (journal : Counters) {why : Refusal} → IsNo
 no_leg_steady target journal (inl open_leg) is = let same = open_leg.1 in cc
 no_leg_steady target journal (inr far) is = let same = far.2 in cc
 
+-- nor is a refusal of another kind one of a leg
+pub shown_no_leg : (why : Refusal) → IsOfShow why → IsOfLeg why → ⊥
+shown_no_leg (refusal.LegOpen target time) shown of_leg = shown
+shown_no_leg (refusal.TickLimit ticks) shown of_leg = shown
+shown_no_leg why shown of_leg = of_leg
+
+pub free_no_leg : (why : Refusal) → NeedsNoCause why → IsOfLeg why → ⊥
+free_no_leg why (inl device) of_leg = subst IsOfLeg device of_leg
+free_no_leg why (inr memory) of_leg = subst IsOfLeg memory of_leg
+
+pub run_no_leg : {H : Type 0} {m : HostModel H} {journal : Counters} {host : H} (why : Refusal)
+    → NeedsNoCause why ⊎ IsSpoilt m journal host why → IsOfLeg why → ⊥
+run_no_leg why (inl free) of_leg = free_no_leg why free of_leg
+run_no_leg why (inr spoilt) of_leg = subst IsOfLeg spoilt.shown of_leg
+
 -- where none is refused the last one has ended
 pub leg_ended : (target : ℕ) (journal : Counters) → ((why : Refusal) → IsNoLeg target journal.progress why → ⊥)
     → journal.progress.time ≡ journal.progress.target
@@ -83,21 +100,7 @@ leg_ended target journal none = elim (cases_eq journal.progress.time journal.pro
   | inr away ↦ absurd (none _ (inl (away, refl)))
 ]
 
--- from an earlier image on
-pub played_from : {H : Type 0} {m : HostModel H} {n : ℕ} {h : History} {first before : Image} {journal : Counters} {host : H}
-    → ((j : ℕ) → j ≤ ticks_of h → IsFinishedSnapshot (length h.bodies) (first.file (snap_of j))
-    → before.file (snap_of j) ≡ first.file (snap_of j))
-    → before.said channels.Out ≡ first.said channels.Out → HasPlayed m n h before journal host → HasPlayed m n h first journal host
-played_from {n = n} {h = h} {first = first} kept said has = record {
-  at = has.at;
-  kept = λ j within finished.
-      let same = kept j within finished in
-      has.kept j within (subst (IsFinishedSnapshot (length h.bodies)) (sym same) finished) ∙ same;
-  said = has.said ∙ ap (λ (l : List ℕ). l ++ lines_behind (run_of h) (ticks_of h) n) said;
-  cells = has.cells;
-}
-
-module _ {H : Type 0} (m : HostModel H) (target : ℕ) {h0 h1 : H} (journal : Counters) (durable : IsDurable m h0) (found : IsTrue m.tells → IsFound journal ((m.contents h0).file journal_file)) (leads1 : Leads m OpenLeads h0 h1) (each1 : (h : History) → IsHistory h → RepresentsHistory h (m.contents h0) → EachImage m (GoesOn 0 h (m.contents h0)) h0 h1) (begun : IsTrue m.tells → (h : History) → IsHistory h → RepresentsHistory h (m.contents h0) → HasPlayed m 0 h (m.contents h0) journal h1 × IsUpToDate m h h1) (none : (why : Refusal) → IsNoLeg target journal.progress why → ⊥) where
+module _ {H : Type 0} (m : HostModel H) (target : ℕ) {h0 h1 : H} (journal : Counters) (durable : IsDurable m h0) (found : IsTrue m.tells → IsFound journal ((m.contents h0).file journal_file)) (leads1 : Leads m OpenLeads h0 h1) (each1 : (h : History) → IsHistory h → RepresentsRun h (m.contents h0) → EachImage m (GoesOn 0 h (m.contents h0)) h0 h1) (begun : IsTrue m.tells → (h : History) → IsHistory h → RepresentsRun h (m.contents h0) → HasPlayed m 0 h (m.contents h0) journal h1 × IsUpToDate m h h1) (none : (why : Refusal) → IsNoLeg target journal.progress why → ⊥) where
   abbrev pub first : Image
   first = m.contents h0
 
@@ -110,13 +113,13 @@ module _ {H : Type 0} (m : HostModel H) (target : ℕ) {h0 h1 : H} (journal : Co
       )
 
   -- the run is at the target
-  pub led_there : {done : Done} → target ≡ journal.progress.time → done.time ≡ journal.progress.time
+  pub led_there : SnapshotIsBack → {done : Done} → target ≡ journal.progress.time → done.time ≡ journal.progress.time
       → done.ticks ≡ journal.progress.ticks → done.gone ≡ journal.progress.gone → IsTrue m.tells → (h : History) → IsHistory h
-      → RepresentsHistory h first → IsLed (ticks_to target h) (aimed_at target h) first done (m.contents h1)
-  led_there same time ticks gone tells h is represents =
+      → RepresentsRun h first → IsLed (ticks_to target h) (aimed_at target h) first done (m.contents h1)
+  led_there law same time ticks gone tells h is represents =
       let has = begun tells h is represents in
       led_here target h (same ∙ ap (λ (c : Counters). c.progress.time) has.0.at.answers)
-      (led has.0 has.1 (leg_ended target journal none) time ticks gone)
+      (led law has.0 has.1 (leg_ended target journal none) time ticks gone)
 
   module _ {P : List ℕ → List ℕ → Type 0} {h2 : H} (next : IsNextLeg journal.progress target) (leads2 : Leads m (FileBecomes journal_file P) h1 h2) (images2 : (log : Log) → Answers log journal → IsCleanNow m log h1 → ImagesFollow m.crashes h1 h2 (Appends log (Leg target) (m.contents h1))) where
     apart2 : Leads m KeepsApart h0 h2
@@ -131,12 +134,12 @@ module _ {H : Type 0} (m : HostModel H) (target : ℕ) {h0 h1 : H} (journal : Co
 
     -- the leg was added, or not
     pub appended : Leads m (GoLeads m.crashes.is_honest target) h0 h2
-    appended = go_on m target durable journal found none apart2 each2
+    appended = go_on m target durable journal found none next.apart apart2 each2
 
     slot_still : IsTrue m.tells → (m.contents h2).file (slot_of journal.progress.ticks) ≡ first.file (slot_of journal.progress.ticks)
     slot_still tells =
         let there = found tells in
-        let agrees = (leads1.contents tells).snapshot there.log there.journal in
+        let agrees = ((leads1.contents tells).snapshot there.log there.journal).others in
         let ticks = ap (λ (c : Counters). c.progress.ticks) there.answers in
         let apart : (file : ℕ) → file ≡ slot_of journal.progress.ticks → Contains (snapshot_files (progress_of there.log).ticks) file → ⊥ =
         not_snapshot (progress_of there.log).ticks journal.progress.ticks in
@@ -177,7 +180,7 @@ module _ {H : Type 0} (m : HostModel H) (target : ℕ) {h0 h1 : H} (journal : Co
         behind_leg : IsTrue m.tells → (s : IsStanding first) → IsAt m (legged target s.h) journal2 h2 × IsUpToDate m (legged target s.h) h2
         behind_leg tells s =
             let has = begun tells s.h s.is s.represents in
-            let clean = added s.h.log has.0.at.answers tells has.0.at.represents.files.journal in
+            let clean = added s.h.log has.0.at.answers tells has.0.at.represents.journal in
             let at = leg_at m target s.h first journal has.0 has.1 next clean durable2 (others2 tells) in (
               subst (λ (c : Counters). IsAt m (legged target s.h) c h2) (sym is2) at,
               leg_date m target s.h first journal has.0 has.1 next clean durable2 (others2 tells),
@@ -193,11 +196,11 @@ module _ {H : Type 0} (m : HostModel H) (target : ℕ) {h0 h1 : H} (journal : Co
             → EachImage m (GoesOn (ticks_left journal2.progress) h (m.contents h2)) h2 h3)
             → Leads m (GoLeads m.crashes.is_honest target) h0 h3
         went_on {h3 = h3} leads3 images3 =
-            go_on m target durable journal found none (apart_both apart2 leads3) (λ s.
+            go_on m target durable journal found none next.apart (apart_both apart2 leads3) (λ s.
             each_told m (Went target first s) (λ tells.
             let has = begun tells s.h s.is s.represents in
             let both = behind_leg tells s in
-            let clean = added s.h.log has.0.at.answers tells has.0.at.represents.files.journal in
+            let clean = added s.h.log has.0.at.answers tells has.0.at.represents.journal in
             let run = subst (λ (n : ℕ). EachImage m (GoesOn n (legged target s.h) (m.contents h2)) h2 h3) (ticks_are tells s)
             (images3 (legged target s.h) both.0 both.1) in
             each_then m (Went target first s) (GoesOn (ticks_to target s.h) (legged target s.h) (m.contents h2)) (Went target first s)
@@ -208,22 +211,23 @@ module _ {H : Type 0} (m : HostModel H) (target : ℕ) {h0 h1 : H} (journal : Co
             ))))
 
         -- it was run to its end
-        pub led_on : {h3 : H} {journal3 : Counters} {done : Done} → target ≢ journal.progress.time → ((h : History) → IsAt m h journal2 h2
+        pub led_on : SnapshotIsBack → {h3 : H} {journal3 : Counters} {done : Done} → target ≢ journal.progress.time → ((h : History) → IsAt m h journal2 h2
             → IsUpToDate m h h2 → HasPlayed m (ticks_left journal2.progress) h (m.contents h2) journal3 h3
             × IsUpToDate m (played (ticks_left journal2.progress) h) h3)
             → journal3.progress.time ≡ journal3.progress.target → done.time ≡ journal3.progress.time
             → done.ticks ≡ journal3.progress.ticks → done.gone ≡ journal3.progress.gone → IsTrue m.tells → (h : History)
-            → IsHistory h → RepresentsHistory h first → IsLed (ticks_to target h) (aimed_at target h) first done (m.contents h3)
-        led_on {h3 = h3} {journal3 = journal3} away run ended time ticks gone tells h is represents =
+            → IsHistory h → RepresentsRun h first → IsLed (ticks_to target h) (aimed_at target h) first done (m.contents h3)
+        led_on law {h3 = h3} {journal3 = journal3} away run ended time ticks gone tells h is represents =
             let s : IsStanding first = record { h = h; is = is; represents = represents } in
             let has = begun tells h is represents in
             let both = behind_leg tells s in
-            let clean = added h.log has.0.at.answers tells has.0.at.represents.files.journal in
+            let clean = added h.log has.0.at.answers tells has.0.at.represents.journal in
             let more = run (legged target h) both.0 both.1 in
             let here = subst (λ (n : ℕ). HasPlayed m n (legged target h) (m.contents h2) journal3 h3
             × IsUpToDate m (played n (legged target h)) h3) (ticks_are tells s) more in
             let rebased = played_from
             (λ j within finished. leg_kept m target h first journal has.0 has.1 next clean durable2 (others2 tells) j within finished)
+            (λ j passed. leg_others m target h first journal has.0 has.1 next clean durable2 (others2 tells) j passed)
             (leg_said m target h first journal has.0 has.1 next clean durable2 (others2 tells)) here.0 in
             led_away target h (λ same. away (same ∙ sym (ap (λ (c : Counters). c.progress.time) has.0.at.answers)))
-            (led rebased here.1 ended time ticks gone)
+            (led law rebased here.1 ended time ticks gone)

@@ -28,7 +28,7 @@ lawful_front count s [] entry lawful = (tt, lawful.0)
 lawful_front count s (first ∷ entries) entry lawful =
     let rest = lawful_front count (progress_after first s) entries entry lawful.1 in ((lawful.0, rest.0), rest.1)
 
-lawful_before : (h : History) (entry : Entry) → IsLawful (with_entry_of entry h).log → IsLawful h.log
+pub lawful_before : (h : History) (entry : Entry) → IsLawful (with_entry_of entry h).log → IsLawful h.log
 lawful_before h entry lawful = record {
   version = lawful.version;
   params = lawful.params;

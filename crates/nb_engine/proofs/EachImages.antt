@@ -1,5 +1,5 @@
 -- What holds of each image of a stretch of calls that begins where what reads is durable.
-use Rattle.std.proofs.Common.{◌≡◌, ℕ, inl, inr, IsTrue, sym, subst, ◌∙◌, ap, List, arith}
+use Rattle.std.proofs.Common.{◌≡◌, ℕ, inl, inr, IsTrue, refl, sym, subst, ◌∙◌, ap, List, arith}
 use Rattle.nb_host.specs.declared.host.Channel.{Channel}
 use Rattle.nb_host.specs.Crashes.{ImagesFollow, EverySince, Stays}
 use Rattle.nb_host.specs.Image.{Image, SaysPart}
@@ -174,6 +174,31 @@ leads_each {m = m} {S = S} Index P {old = old} {new = new} durable leads here ea
 pub each_told : {H : Type 0} (m : HostModel H) (P : Image → Type 0) {old new : H} → (IsTrue m.tells → EachImage m P old new)
     → EachImage m P old new
 each_told m P each = record { follows = λ honest. (each (m.tells_if_honest honest)).follows honest }
+
+-- a step, by which an image stays where this holds of it
+abbrev pub SparedWhere : (Image → Image → Type 0) → (Image → Type 0) → Image → Image → Type 0
+SparedWhere S Q start image = S start image × (Q start → image ≡ start)
+
+-- calls that change nothing, where this holds of what is durable at their start
+pub leads_spared : {H : Type 0} {m : HostModel H} (S : Image → Image → Type 0) (Q : Image → Type 0) {old new : H}
+    → IsDurable m old → Leads m S old new → (IsTrue m.tells → Q (m.contents old) → Leads m Stays old new)
+    → Leads m (SparedWhere S Q) old new
+leads_spared {m = m} S Q {old = old} {new = new} durable leads spared = record {
+  contents = λ tells. (leads.contents tells, λ is. (spared tells is).contents tells);
+  images = record { follows = λ honest. (weaken behind.images (λ start image both. (both.0, both.1 honest))).follows honest };
+} where
+  Same : Q (m.contents old) → Image → Type 0
+  Same is image = image ≡ m.contents old
+
+  each : (is : Q (m.contents old)) → EachImage m (Same is) old new
+  each is =
+      each_told m (Same is) (λ tells. from_durable m Stays (Same is) durable (spared tells is).images (λ honest image same. same))
+
+  behind : Leads m (λ start image. S start image × (IsTrue m.crashes.is_honest → Q start → image ≡ start)) old new
+  behind =
+      leads_from_durable _ (λ start image. S start image × (IsTrue m.crashes.is_honest → Q start → image ≡ start)) durable
+      (leads_each (Q (m.contents old)) Same durable leads (λ honest is. refl) each)
+      (λ tells image both. both)
 
 -- a stretch behind calls that change nothing
 pub each_behind : {H : Type 0} {m : HostModel H} (P : Image → Type 0) {old middle new : H} → IsDurable m old → Leads m Stays old middle

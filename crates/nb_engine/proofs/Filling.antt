@@ -19,7 +19,6 @@ use Rattle.nb_model.specs.Valid.{IsValidBodies}
 use Rattle.nb_model.proofs.Facts.{length-kick, length-drift}
 use Rattle.nb_journal.specs.Counters.{Counters, Answers}
 use Rattle.nb_journal.specs.Form.{IsLawful}
-use Rattle.nb_journal.specs.Offsets.{journal_file}
 use Rattle.nb_cache.specs.InStep.{IsInStep}
 use Rattle.nb_cache.specs.View.{CacheValue}
 use Rattle.nb_cache.specs.Writes.{RanCached}
@@ -33,10 +32,11 @@ use Rattle.nb_tick.specs.State.{HoldsState, HoldsKickedState, IsCellIndexOf}
 use Rattle.nb_tick.specs.Tick.{IsState, IsStepped, LeavesState, IsNoState}
 use Rattle.nb_engine.specs.declared.refusal.Refusal.{Refusal}
 use Rattle.nb_engine.specs.declared.refusal.Refusal.TheVariants as refusal
+use Rattle.nb_engine.specs.Files.{IsPagedFile}
 use Rattle.nb_engine.specs.Frame.{RanSession}
 use Rattle.nb_engine.specs.Histories.{state_of, History, run_of, ticks_of, IsHistory}
 use Rattle.nb_engine.specs.Refusal.{of_host, of_tick, NeedsNoCause}
-use Rattle.nb_engine.specs.Represents.{snap_of, IsOpened, RepresentsHistory}
+use Rattle.nb_engine.specs.Represents.{snap_of, IsOpened, RepresentsRun}
 use Rattle.nb_engine.specs.Steps.{IsSettled, HasState, IsSpoilt, fill_files, IsFilled, HasNext}
 use Rattle.nb_engine.proofs.Frames.{session_ran, session_cached, session_then}
 use Rattle.nb_engine.proofs.Paths.{state-forward, state-back}
@@ -98,21 +98,18 @@ apart_filled k number slot (inr high) (suc (suc (suc zero)), below, at) = omega 
 apart_filled k number slot (inr high) (suc (suc (suc (suc zero))), below, at) = high.1 (sym at)
 apart_filled k number slot (inr high) (suc (suc (suc (suc (suc n)))), below, at) = omega (arith, below)
 
--- a page of a tick's files is none of the journal's
-slot_least : (slot : Slot) → 3 ≤ slot_file slot
-slot_least Even = omega arith
-slot_least Odd = omega arith
+-- the files of a tick are files of pages
+pub slot_paged : (slot : Slot) → IsPagedFile (slot_file slot)
+slot_paged Even = (omega arith, omega arith)
+slot_paged Odd = (omega arith, omega arith)
 
-pub slot_no_journal : (slot : Slot) → slot_file slot ≢ journal_file
-slot_no_journal slot same = omega (arith, slot_least slot, same)
-
-never_journal : (from : Slot) (file : ℕ) → Contains (slot_file from ∷ tick_files from) file → file ≢ journal_file
-never_journal from file (zero, below, at) same = omega (arith, at, same, slot_least from)
-never_journal from file (suc zero, below, at) same = omega (arith, at, same, slot_least (other_slot from))
-never_journal from file (suc (suc zero), below, at) same = omega (arith, at, same)
-never_journal from file (suc (suc (suc zero)), below, at) same = omega (arith, at, same)
-never_journal from file (suc (suc (suc (suc zero))), below, at) same = omega (arith, at, same)
-never_journal from file (suc (suc (suc (suc (suc n)))), below, at) same = omega (arith, below)
+tick_paged : (from : Slot) (file : ℕ) → Contains (slot_file from ∷ tick_files from) file → IsPagedFile file
+tick_paged from file (zero, below, at) = subst IsPagedFile at (slot_paged from)
+tick_paged from file (suc zero, below, at) = subst IsPagedFile at (slot_paged (other_slot from))
+tick_paged from file (suc (suc zero), below, at) = (omega (arith, at), omega (arith, at))
+tick_paged from file (suc (suc (suc zero)), below, at) = (omega (arith, at), omega (arith, at))
+tick_paged from file (suc (suc (suc (suc zero))), below, at) = (omega (arith, at), omega (arith, at))
+tick_paged from file (suc (suc (suc (suc (suc n)))), below, at) = absurd (omega (arith, below))
 
 -- images that agree outside these files with images that do
 pub agrees_again : {files : List ℕ} {start between image : Image} → AgreesOutside files start between
@@ -242,7 +239,7 @@ module _ {H : Type 0} (m : HostModel H) (journal : Counters) (params : Params) (
       inr (record {
         page = page;
         shown = refl;
-        file = never_journal from page.file is.file;
+        file = tick_paged from page.file is.file;
         cause = λ tells bodies has.
             is.cause tells bodies (valid_state bodies has) (has.count ∙ sym count_is) (holds_state bodies has);
       })
@@ -311,7 +308,7 @@ module _ {H : Type 0} (m : HostModel H) (journal : Counters) (params : Params) (
         → (IsTrue m.tells → (bodies : List Body) → IsState params known count bodies slot_bytes
         → IsStepped params way from bodies (m.contents h1) gone)
         → (IsTrue m.tells → (m.contents h2).file file ≡ [])
-        → IsTrue m.tells → (h : History) → Answers h.log journal → IsHistory h → RepresentsHistory h (m.contents h0)
+        → IsTrue m.tells → (h : History) → Answers h.log journal → IsHistory h → RepresentsRun h (m.contents h0)
         → IsFilled h (m.contents h2) × (gone ≡ escaped_count (state_of (run_of h) (suc (ticks_of h))))
     filled way known apart leads right steps_on empty tells h answers is represents =
         let run = run_of h in
@@ -327,15 +324,15 @@ module _ {H : Type 0} (m : HostModel H) (journal : Counters) (params : Params) (
         let state : IsState h.log.params known count list slot_bytes = record {
           valid = steps_valid run.params (take k (directions run.begin run.legs)) run.bodies is.run.bodies;
           count_is = many;
-          holds = subst (λ (n : ℕ). HoldsState list ((m.contents h0).file n)) (sym here) represents.files.slot;
+          holds = subst (λ (n : ℕ). HoldsState list ((m.contents h0).file n)) (sym here) represents.slot;
           kicks = λ known_is.
               subst (λ (n : ℕ). HoldsKickedState h.log.params list ((m.contents h0).file n)) (sym here)
-              (represents.files.kicks (λ none. right known_is (ticks ∙ none)));
+              (represents.kicks (λ none. right known_is (ticks ∙ none)));
         } in
         let stepped = subst (λ (p : Params). IsStepped p way from list (m.contents h1) gone) params_of
         (steps_on tells list (subst (λ (p : Params). IsState p known count list slot_bytes) (sym params_of) state)) in
         let same : step h.log.params way list ≡ next =
-        sym (state_next h journal way answers represents.files.journal.journal.lawful apart leads) in
+        sym (state_next h journal way answers represents.journal.journal.lawful apart leads) in
         let slot_there = subst (λ (n : ℕ). HoldsKickedState h.log.params next ((m.contents h1).file n)) (other_is from k here)
         (subst (λ (l : List Body). HoldsKickedState h.log.params l ((m.contents h1).file (slot_file (other_slot from)))) same
         stepped.slot) in

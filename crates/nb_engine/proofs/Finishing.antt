@@ -23,13 +23,14 @@ use Rattle.nb_tick.specs.Slots.{slot_of, sorted_file}
 use Rattle.nb_engine.specs.declared.refusal.Refusal.{Refusal}
 use Rattle.nb_engine.specs.Acknowledged.{IsToldUpTo}
 use Rattle.nb_engine.specs.Due.{TellsDue}
-use Rattle.nb_engine.specs.Files.{init_file}
+use Rattle.nb_engine.specs.Files.{init_file, IsPagedFile}
 use Rattle.nb_engine.specs.Frame.{EachImage}
 use Rattle.nb_engine.specs.Histories.{state_of, time_of, IsDue, History, run_of, ticks_of, IsHistory}
 use Rattle.nb_engine.specs.Refusal.{NeedsNoCause}
-use Rattle.nb_engine.specs.Represents.{snap_of, IsOpened, IsSnapshotOf, RepresentsHistory, IsComplete}
+use Rattle.nb_engine.specs.Represents.{snap_of, IsOpened, IsSnapshotOf, RepresentsRun, IsComplete}
 use Rattle.nb_engine.specs.Snapshots.{HoldsByKeys, IsBroken}
 use Rattle.nb_engine.specs.Steps.{IsAt, IsSpoilt, GoesOn, HasPlayed, IsUpToDate}
+use Rattle.nb_engine.proofs.Played.{passed_apart}
 use Rattle.nb_engine.proofs.EachImages.{from_durable, durable_stays}
 use Rattle.nb_engine.proofs.Paths.{time-now}
 use Rattle.nb_engine.proofs.Played.{goes_none}
@@ -62,7 +63,7 @@ slot_by_keys {m = m} h {journal = journal} {host = host} at =
     let list = state_of run (ticks_of h) in
     record {
       holds = subst (λ (n : ℕ). HoldsBodies ((m.contents host).file (slot_of n)) (sorted_by by_key list))
-          (sym (tells_ticks h at.answers)) at.represents.files.slot;
+          (sym (tells_ticks h at.answers)) at.represents.slot;
       count_is = length-state h (ticks_of h) ∙ sym (tells_count at.is at.answers);
       rises = (steps_valid run.params (take (ticks_of h) (directions run.begin run.legs)) run.bodies at.is.run.bodies).ids;
     }
@@ -76,7 +77,7 @@ stays_at {m = m} {h = h} at leads = record {
   durable = durable_stays m at.durable leads;
   is = at.is;
   answers = at.answers;
-  represents = subst (RepresentsHistory h) (sym (leads.contents at.tells)) at.represents;
+  represents = subst (RepresentsRun h) (sym (leads.contents at.tells)) at.represents;
 }
 
 pub played_none : {H : Type 0} {m : HostModel H} {h : History} {journal : Counters} {old new : H} → IsAt m h journal old
@@ -86,6 +87,7 @@ played_none {m = m} {old = old} at leads =
     record {
       at = stays_at at leads;
       kept = λ j within finished. ap (λ (i : Image). i.file (snap_of j)) same;
+      others = λ j passed. ap (λ (i : Image). i.file (snap_of j)) same;
       said = ap (λ (i : Image). i.said channels.Out) same ∙ sym (append-nil ((m.contents old).said channels.Out));
       cells = λ some. absurd (some refl);
     }
@@ -99,7 +101,7 @@ images_none {m = m} {h = h} {old = old} at leads =
     (λ honest image same. subst (GoesOn 0 h now) (sym same) (goes_none at.represents))
 
 -- All that is due is finished where the snapshot of the last tick is, if that is due.
-complete_if : (h : History) (image : Image) → RepresentsHistory h image
+complete_if : (h : History) (image : Image) → RepresentsRun h image
     → (IsDue (run_of h) (ticks_of h) → IsFinishedSnapshot (length h.bodies) (image.file (snap_of (ticks_of h))))
     → IsComplete (run_of h) (ticks_of h) image
 complete_if h image represents last = λ j due within.
@@ -107,7 +109,7 @@ complete_if h image represents last = λ j due within.
       | inl same ↦
           subst (λ (n : ℕ). IsFinishedSnapshot (length h.bodies) (image.file (snap_of n))) (sym same)
           (last (subst (IsDue (run_of h)) same due))
-      | inr apart ↦ represents.files.finished j due (omega arith)
+      | inr apart ↦ represents.finished j due (omega arith)
     ]
 
 -- It isn't due.
@@ -158,37 +160,34 @@ module _ (h : History) (old image : Image) (agrees : AgreesOutside (snap_of (tic
   same_snap j apart = same_other (snap_of j) (omega arith) (omega arith)
 
   -- the folder represents what it did, where the last snapshot is the run's, if it is opened
-  pub represents_written : RepresentsHistory h old
+  pub represents_written : RepresentsRun h old
       → (IsOpened (image.file (snap_of (ticks_of h))) → IsSnapshotOf (run_of h) (ticks_of h) (image.file (snap_of (ticks_of h))))
-      → RepresentsHistory h image
+      → RepresentsRun h image
   represents_written represents last =
       let run = run_of h in
       let k = ticks_of h in
       let list = sorted_by by_key (state_of run k) in
-      let stands = represents.files in
+      let stands = represents in
       let slot = same_other (slot_of k) (omega arith) (omega arith) in
       record {
-        files = record {
-          journal = subst (IsCleanJournal h.log) (sym (same_other journal_file (omega arith) (omega arith))) stands.journal;
-          start = subst (λ (file : List ℕ). IsSnapshot file run.bodies run.begin)
-              (sym (same_other init_file (omega arith) (omega arith))) stands.start;
-          slot = subst (λ (file : List ℕ). HoldsBodies file list) (sym slot) stands.slot;
-          kicks = λ some.
-              subst (λ (file : List ℕ). HoldsKickedBodies file (half_kick run.params (state_of run k)) list) (sym slot)
-              (stands.kicks some);
-          finished = λ j due below.
-              subst (IsFinishedSnapshot (length run.bodies)) (sym (same_snap j (omega arith))) (stands.finished j due below);
-          right = λ j some within opened.
-              elim (cases_eq j k) [
-                | inl same ↦
-                    subst (λ (n : ℕ). IsSnapshotOf run n (image.file (snap_of n))) (sym same)
-                    (last (subst (λ (n : ℕ). IsOpened (image.file (snap_of n))) same opened))
-                | inr apart ↦
-                    let snap = same_snap j apart in
-                    subst (IsSnapshotOf run j) (sym snap) (stands.right j some within (subst IsOpened snap opened))
-              ];
-        };
-        told = subst (IsToldUpTo k) (sym (ap (λ (s : Channel → List ℕ). s channels.Out) agrees.said)) represents.told;
+        journal = subst (IsCleanJournal h.log) (sym (same_other journal_file (omega arith) (omega arith))) stands.journal;
+        start = subst (λ (file : List ℕ). IsSnapshot file run.bodies run.begin)
+            (sym (same_other init_file (omega arith) (omega arith))) stands.start;
+        slot = subst (λ (file : List ℕ). HoldsBodies file list) (sym slot) stands.slot;
+        kicks = λ some.
+            subst (λ (file : List ℕ). HoldsKickedBodies file (half_kick run.params (state_of run k)) list) (sym slot)
+            (stands.kicks some);
+        finished = λ j due below.
+            subst (IsFinishedSnapshot (length run.bodies)) (sym (same_snap j (omega arith))) (stands.finished j due below);
+        right = λ j some within opened.
+            elim (cases_eq j k) [
+              | inl same ↦
+                  subst (λ (n : ℕ). IsSnapshotOf run n (image.file (snap_of n))) (sym same)
+                  (last (subst (λ (n : ℕ). IsOpened (image.file (snap_of n))) same opened))
+              | inr apart ↦
+                  let snap = same_snap j apart in
+                  subst (IsSnapshotOf run j) (sym snap) (stands.right j some within (subst IsOpened snap opened))
+            ];
       }
 
   -- each snapshot that was finished is as it was, where the last one wasn't
@@ -202,17 +201,17 @@ module _ (h : History) (old image : Image) (agrees : AgreesOutside (snap_of (tic
       ]
 
 -- A due snapshot that isn't finished isn't opened either: an opened one would be the run's.
-unopened : (h : History) (old : Image) → RepresentsHistory h old → 1 ≤ ticks_of h
+unopened : (h : History) (old : Image) → RepresentsRun h old → 1 ≤ ticks_of h
     → (IsFinishedSnapshot (length h.bodies) (old.file (snap_of (ticks_of h))) → ⊥)
     → IsUnfinished (old.file (snap_of (ticks_of h)))
 unopened h old represents some unfinished = λ long open'.
     let k = ticks_of h in
     let file = old.file (snap_of k) in
-    let is = (represents.files.right k some (omega arith) (record { more = long; open_gate = open' })).bytes in
+    let is = (represents.right k some (omega arith) (record { more = long; open_gate = open' })).bytes in
     absurd (unfinished (subst (λ (n : ℕ). IsFinishedSnapshot n file) (length-state h k) (snapshot_finished is)))
 
 -- at some moment of its writing
-goes_writing : (h : History) (old image : Image) → RepresentsHistory h old → IsDue (run_of h) (ticks_of h)
+goes_writing : (h : History) (old image : Image) → RepresentsRun h old → IsDue (run_of h) (ticks_of h)
     → (IsFinishedSnapshot (length h.bodies) (old.file (snap_of (ticks_of h))) → ⊥)
     → ChangesWith (sorted_file ∷ []) (snap_of (ticks_of h))
     (IsWritten (state_of (run_of h) (ticks_of h)) (time_of (run_of h) (ticks_of h))) old image
@@ -226,11 +225,12 @@ goes_writing h old image represents due unfinished step = record {
         | inr still ↦ absurd (still opened.more opened.open_gate)
       ]);
   kept = kept_written h old image step.kept unfinished;
-  said = (
-    0,
-    omega arith,
-    ap (λ (s : Channel → List ℕ). s channels.Out) step.kept.said ∙ sym (append-nil (old.said channels.Out)),
-  );
+  others = λ j passed. same_snap h old image step.kept j (elim passed [
+    | inl next ↦ passed_apart (ticks_of h) 1 j next
+    | inr last ↦ passed_apart (ticks_of h) 0 j last
+  ]);
+  said = ap (λ (s : Channel → List ℕ). s channels.Out) step.kept.said;
+  first = λ opened. ap (λ (s : Channel → List ℕ). s channels.Out) step.kept.said ∙ sym (append-nil (old.said channels.Out));
 }
 
 -- a change of the snapshot's file, after calls that only read
@@ -268,7 +268,7 @@ images_written {m = m} {h = h} {journal = journal} {old = old} {middle = middle}
     let written = write list (λ _. slot_by_keys h (stays_at at read)) in
     let here : Leads m (ChangesWith (sorted_file ∷ []) (snap_of k) P) middle new =
     subst (λ (t : ℕ). Leads m (ChangesWith (sorted_file ∷ []) (snap_of k) (IsWritten list t)) middle new)
-    (tells_time h at.represents.files.journal.journal.lawful at.answers)
+    (tells_time h at.represents.journal.journal.lawful at.answers)
     (subst (λ (n : ℕ). Leads m (ChangesWith (sorted_file ∷ []) (snap_of n) (IsWritten list journal.progress.time)) middle new)
     (tells_ticks h at.answers) written) in
     let all = leads_before_changes (snap_of k) P (λ bytes before. inr before) read here in
@@ -292,7 +292,7 @@ played_written {m = m} {h = h} {journal = journal} {old = old} {middle = middle}
     let before = m.contents old in
     let after = m.contents new in
     let due = tells.0 is in
-    let lawful = at.represents.files.journal.journal.lawful in
+    let lawful = at.represents.journal.journal.lawful in
     let snapshot : IsSnapshot (after.file (snap_of k)) list (time_of run k) =
     subst (IsSnapshot (after.file (snap_of k)) list) (tells_time h lawful at.answers)
     (subst (λ (n : ℕ). IsSnapshot (after.file (snap_of n)) list journal.progress.time) (tells_ticks h at.answers)
@@ -315,6 +315,7 @@ played_written {m = m} {h = h} {journal = journal} {old = old} {middle = middle}
         };
         kept = kept_written h before after agrees
             (λ finished. unfinished at.tells (last_number before at.is at.answers number many finished));
+        others = λ j passed. same_snap h before after agrees j (passed_apart k 0 j passed);
         said = ap (λ (s : Channel → List ℕ). s channels.Out) agrees.said ∙ sym (append-nil (before.said channels.Out));
         cells = λ some. absurd (some refl);
       },
@@ -325,7 +326,7 @@ played_written {m = m} {h = h} {journal = journal} {old = old} {middle = middle}
 
 -- Where the slot holds no such list, the folder doesn't hold what its run needs to go on.
 pub spoilt : {H : Type 0} {m : HostModel H} {journal : Counters} {old middle : H} → Leads m Stays old middle → (why : Refusal)
-    → NeedsNoCause why ⊎ IsBroken m (SlotHolds m journal middle) why → NeedsNoCause why ⊎ IsSpoilt m journal old why
+    → NeedsNoCause why ⊎ IsBroken m IsPagedFile (SlotHolds m journal middle) why → NeedsNoCause why ⊎ IsSpoilt m journal old why
 spoilt {m = m} {journal = journal} {middle = middle} read why cause =
     elim cause [
       | inl none ↦ inl none

@@ -14,6 +14,10 @@ use Rattle.nb_engine.specs.declared.refusal.Refusal.TheVariants as refusal
 use Rattle.nb_engine.specs.Frame.{RanSession}
 use Rattle.nb_engine.specs.Refusal.{NeedsNoCause, of_host}
 
+-- equal tallies count as many syncs
+syncs_kept : {before after : Tally} → after ≡ before → before.syncs ≤ after.syncs
+syncs_kept same = let syncs = ap (λ (t : Tally). t.syncs) same in omega (arith, syncs)
+
 -- no call yet
 pub session_none : {H T : Type 0} (m : HostModel H) {by : Image → Image → Type 0} (host : H) {result : Result T Refusal}
     → ((image : Image) → by image image) → result ≢ Err refusal.Device → RanSession m by host host result
@@ -24,6 +28,7 @@ session_none m host itself never = record {
   spared = λ _. refl;
   refused = λ _. refl;
   heard = λ _ _. refl;
+  synced = λ _ _. omega arith;
 }
 
 -- a call of the host or of a crate below, with the answer that is made of its own
@@ -39,19 +44,21 @@ session_ran ran there back = record {
   spared = λ never. ran.spared (λ faulted. never (back faulted));
   refused = λ _. ap (λ (t : Tally). t.refused_says channels.Err) ran.tally;
   heard = λ _ _. ap (λ (t : Tally). t.refused_says channels.Out) ran.tally;
+  synced = λ _ _. syncs_kept ran.tally;
 }
 
 pub session_syncing : {H T U E : Type 0} {m : HostModel H} {syncs : ℕ} {fault : E} {by : Image → Image → Type 0} {old new : H}
     {one : Result T E} {result : Result U Refusal} → RanSyncing m syncs fault by old new one
     → (result ≡ Err refusal.Device → one ≡ Err fault) → (one ≡ Err fault → result ≡ Err refusal.Device)
-    → RanSession m by old new result
-session_syncing ran there back = record {
+    → (IsOk result → IsOk one) → RanSession m by old new result
+session_syncing ran there back fine = record {
   leads = ran.leads;
   count = ran.count;
   rose = λ faulted. ran.rose (there faulted);
   spared = λ never. ran.spared (λ faulted. never (back faulted));
   refused = λ _. ap (λ (f : Channel → ℕ). f channels.Err) ran.refused;
   heard = λ _ _. ap (λ (f : Channel → ℕ). f channels.Out) ran.refused;
+  synced = λ tells ok. omega (arith, ran.synced tells (fine ok));
 }
 
 pub session_cached : {H T U E : Type 0} {m : HostModel H} {fault : E} {files : List ℕ} {by : Image → Image → Type 0}
@@ -66,6 +73,7 @@ session_cached ran leads there back = record {
   spared = λ never. ran.spared (λ faulted. never (back faulted));
   refused = λ _. ap (λ (t : Tally). t.refused_says channels.Err) ran.writes.tally;
   heard = λ _ _. ap (λ (t : Tally). t.refused_says channels.Out) ran.writes.tally;
+  synced = λ _ _. syncs_kept ran.writes.tally;
 }
 
 Err≢Out : ◌≡◌ {A = Channel} channels.Err channels.Out → ⊥
@@ -83,6 +91,7 @@ session_spoke spoke leads there back fine = record {
   spared = λ never. spoke.spared (λ faulted. never (back faulted));
   refused = λ tells. (spoke.refused tells).others channels.Err Err≢Out;
   heard = λ tells ok. (spoke.refused tells).spared (fine ok);
+  synced = λ _ _. omega (arith, spoke.syncs);
 }
 
 -- calls after others that succeeded, with where both lead
@@ -98,6 +107,7 @@ session_then {m = m} {old = old} {middle = middle} {new = new} ok before after l
       spared = λ never. after.spared never ∙ same;
       refused = λ tells. after.refused tells ∙ before.refused tells;
       heard = λ tells fine. after.heard tells fine ∙ before.heard tells ok;
+      synced = λ tells fine. omega (arith, before.synced tells ok, after.synced tells fine);
     }
 
 -- another answer, which stands for a fault exactly where this one does, and isn't Ok where this one isn't
@@ -112,6 +122,7 @@ session_as ran there back fine = record {
   spared = λ never. ran.spared (λ faulted. never (back faulted));
   refused = ran.refused;
   heard = λ tells ok. ran.heard tells (fine ok);
+  synced = λ tells ok. ran.synced tells (fine ok);
 }
 
 -- the step that calls lead by, weakened
@@ -124,6 +135,7 @@ session_by ran leads = record {
   spared = ran.spared;
   refused = ran.refused;
   heard = ran.heard;
+  synced = ran.synced;
 }
 
 -- An answer that isn't a device fault, where the calls ended without one: what was said on Err is as it was.
@@ -137,6 +149,7 @@ session_ended ran ok never = record {
   spared = λ _. ran.spared (ok_is_no_error ok);
   refused = ran.refused;
   heard = λ tells _. ran.heard tells ok;
+  synced = λ tells _. ran.synced tells ok;
 }
 
 -- the same behind a call of a crate below
@@ -150,6 +163,7 @@ session_behind ran ok never = record {
   spared = λ _. ran.spared (ok_is_no_error ok);
   refused = λ _. ap (λ (t : Tally). t.refused_says channels.Err) ran.tally;
   heard = λ _ _. ap (λ (t : Tally). t.refused_says channels.Out) ran.tally;
+  synced = λ _ _. syncs_kept ran.tally;
 }
 
 -- ---- what is handed on
@@ -170,6 +184,7 @@ session_handed ran is = record {
   spared = λ never. ran.spared (λ faulted. never (ap Err (inside (sym is ∙ faulted))));
   refused = ran.refused;
   heard = λ tells ok. absurd (search rules);
+  synced = λ tells ok. absurd (search rules);
 }
 
 by_device : (error : HostError) → of_host error ≡ refusal.Device → error ≡ Fault
@@ -192,6 +207,7 @@ session_host {error = error} ran is = record {
   spared = λ never. ran.spared (λ faulted. never (ap Err (to_device error (sym is ∙ faulted))));
   refused = λ _. ap (λ (f : Channel → ℕ). f channels.Err) ran.refused;
   heard = λ tells ok. absurd (search rules);
+  synced = λ tells ok. absurd (search rules);
 }
 
 -- A call of the host that succeeded, with an answer of the same kind.
@@ -204,6 +220,7 @@ session_synced ran ok = record {
   spared = λ _. ran.spared (ok_is_no_error ok);
   refused = λ _. ap (λ (f : Channel → ℕ). f channels.Err) ran.refused;
   heard = λ _ _. ap (λ (f : Channel → ℕ). f channels.Out) ran.refused;
+  synced = λ tells _. omega (arith, ran.synced tells ok);
 }
 
 pub free_by_host : (error : HostError) → NeedsNoCause (of_host error)

@@ -1,5 +1,5 @@
 -- How a session leads a run to a time: with a leg, or without one.
-use Rattle.std.proofs.Common.{◌≡◌, ◌≢◌, ℕ, ◌+◌, ◌^◌, ◌<◌, ◌≤◌, ◌⊎◌, inl, inr, IsTrue, List, [], ◌∷◌, ◌++◌, length, take, refl, sym, ap, subst, ◌∙◌, arith, append-nil}
+use Rattle.std.proofs.Common.{◌≡◌, ◌≢◌, ℕ, ◌+◌, ◌^◌, ◌<◌, ◌≤◌, ◌⊎◌, inl, inr, IsTrue, List, [], ◌∷◌, length, refl, sym, ap, subst, ◌∙◌, arith, append-nil}
 use Rattle.std.specs.Int.{abs_diff}
 use Rattle.std.proofs.lemmas.Bool.{cases_eq, cases_lt}
 use Rattle.nb_model.specs.Limits.{most_ticks}
@@ -20,40 +20,19 @@ use Rattle.nb_journal.specs.Offsets.{journal_file}
 use Rattle.nb_journal.proofs.Callers.{found_answers, answers_more, ready_then}
 use Rattle.nb_tick.specs.Slots.{slot_of}
 use Rattle.nb_engine.specs.declared.refusal.Refusal.{Refusal}
-use Rattle.nb_engine.specs.Acknowledged.{IsToldUpTo}
 use Rattle.nb_engine.specs.Files.{init_file}
 use Rattle.nb_engine.specs.Frame.{EachImage, KeepsApart}
 use Rattle.nb_engine.specs.Histories.{IsDue, History, run_of, ticks_of, IsHistory, legged}
-use Rattle.nb_engine.specs.Represents.{snap_of, RepresentsHistory}
+use Rattle.nb_engine.specs.Represents.{snap_of, RepresentsRun}
 use Rattle.nb_engine.specs.Sessions.{ticks_left, ticks_to, SessionLeads, OpenLeads, GoLeads, ResumeLeads, IsNoLeg}
-use Rattle.nb_engine.specs.Steps.{lines_behind, IsAt, GoesOn, HasPlayed, IsUpToDate}
+use Rattle.nb_engine.specs.Steps.{IsAt, IsPassed, GoesOn, HasPlayed, IsUpToDate}
 use Rattle.nb_engine.proofs.EachImages.{from_durable, leads_each, leads_from_durable}
 use Rattle.nb_engine.proofs.LongerLogs.{run-legged, ticks-legged, leads-away}
 use Rattle.nb_engine.proofs.LongerRuns.{due-shorter}
 use Rattle.nb_engine.proofs.Openings.{goes_nowhere}
 use Rattle.nb_engine.proofs.Paths.{ticks-within}
+use Rattle.nb_engine.proofs.Played.{goes_from, goes_more}
 use Rattle.nb_engine.proofs.Representing.{spared, represents_legged}
-
--- ---- from an earlier image on
-
--- calls that said nothing and kept what was finished came before
-pub goes_from : {most : ℕ} {h : History} {first before image : Image}
-    → ((j : ℕ) → j ≤ ticks_of h → IsFinishedSnapshot (length h.bodies) (first.file (snap_of j))
-    → before.file (snap_of j) ≡ first.file (snap_of j))
-    → before.said channels.Out ≡ first.said channels.Out → GoesOn most h before image → GoesOn most h first image
-goes_from {h = h} {first = first} {before = before} {image = image} kept said goes = record {
-  done = goes.done;
-  few = goes.few;
-  represents = goes.represents;
-  kept = λ j within finished.
-      let same = kept j within finished in
-      goes.kept j within (subst (IsFinishedSnapshot (length h.bodies)) (sym same) finished) ∙ same;
-  said = (
-    goes.said.0,
-    goes.said.1,
-    goes.said.2 ∙ ap (λ (l : List ℕ). l ++ take goes.said.0 (lines_behind (run_of h) (ticks_of h) goes.done)) said,
-  );
-}
 
 -- nothing is said before the first tick
 pub said_begun : {H : Type 0} {m : HostModel H} {h : History} {first : Image} {journal : Counters} {host : H}
@@ -65,7 +44,7 @@ said_begun {first = first} begun = begun.said ∙ append-nil (first.said channel
 pub record IsStanding (first : Image) : Type 0 where
   pub h : History
   pub is : IsHistory h
-  pub represents : RepresentsHistory h first
+  pub represents : RepresentsRun h first
 
 -- what stands in an image, of a folder that represented a history when the session began
 abbrev pub Went : ℕ → (first : Image) → IsStanding first → Image → Type 0
@@ -76,7 +55,7 @@ Went target first standing image =
 module _ {H : Type 0} (m : HostModel H) (target : ℕ) {h0 : H} (durable : IsDurable m h0) where
   -- the session was begun, and no more
   pub go_opened : {h1 : H} → Leads m OpenLeads h0 h1
-      → ((h : History) → IsHistory h → RepresentsHistory h (m.contents h0) → EachImage m (GoesOn 0 h (m.contents h0)) h0 h1)
+      → ((h : History) → IsHistory h → RepresentsRun h (m.contents h0) → EachImage m (GoesOn 0 h (m.contents h0)) h0 h1)
       → Leads m (GoLeads m.crashes.is_honest target) h0 h1
   go_opened leads each =
       let first = m.contents h0 in
@@ -85,12 +64,12 @@ module _ {H : Type 0} (m : HostModel H) (target : ℕ) {h0 : H} (durable : IsDur
       leads_from_durable _ (GoLeads m.crashes.is_honest target) durable joined
       (λ tells image both. record {
         session = both.0.session;
-        refused = λ log why journal no. both.0.snapshot log journal;
+        still = λ log journal no. both.0.snapshot log journal;
         goes = λ honest h is represents. inl (both.1 honest (record { h = h; is = is; represents = represents }));
       })
 
   pub resume_opened : {h1 : H} → Leads m OpenLeads h0 h1
-      → ((h : History) → IsHistory h → RepresentsHistory h (m.contents h0) → EachImage m (GoesOn 0 h (m.contents h0)) h0 h1)
+      → ((h : History) → IsHistory h → RepresentsRun h (m.contents h0) → EachImage m (GoesOn 0 h (m.contents h0)) h0 h1)
       → Leads m (ResumeLeads m.crashes.is_honest) h0 h1
   resume_opened leads each =
       let first = m.contents h0 in
@@ -99,9 +78,10 @@ module _ {H : Type 0} (m : HostModel H) (target : ℕ) {h0 : H} (durable : IsDur
       leads_from_durable _ (ResumeLeads m.crashes.is_honest) durable joined
       (λ tells image both. record {
         session = both.0.session;
+        still = λ log journal ended. both.0.snapshot log journal;
         goes = λ honest h is represents.
-            let on = both.1 honest (record { h = h; is = is; represents = represents }) in
-            record { done = on.done; few = omega (arith, on.few); represents = on.represents; kept = on.kept; said = on.said };
+            goes_more 0 (ticks_left (progress_of h.log))
+            (both.1 honest (record { h = h; is = is; represents = represents })) (omega arith);
       })
 
   -- ---- where a journal was found that allows the leg
@@ -114,24 +94,34 @@ module _ {H : Type 0} (m : HostModel H) (target : ℕ) {h0 : H} (durable : IsDur
       idle = λ none. let there = found tells in absurd (none there.log there.journal);
     }
 
-    pub go_on : {h3 : H} → ((why : Refusal) → IsNoLeg target journal.progress why → ⊥) → Leads m KeepsApart h0 h3
+    pub go_on : {h3 : H} → ((why : Refusal) → IsNoLeg target journal.progress why → ⊥) → target ≢ journal.progress.time
+        → Leads m KeepsApart h0 h3
         → ((s : IsStanding (m.contents h0)) → EachImage m (Went target (m.contents h0) s) h0 h3)
         → Leads m (GoLeads m.crashes.is_honest target) h0 h3
-    go_on none leads each =
+    go_on none away leads each =
         let first = m.contents h0 in
         let joined = leads_each (IsStanding first) (Went target first) durable leads
         (λ honest s. inl (goes_nowhere 0 s.h first s.represents)) each in
         leads_from_durable _ (GoLeads m.crashes.is_honest target) durable joined
         (λ tells image both. record {
           session = session_by_found tells image both.0;
-          refused = λ log why is no.
+          still = λ log is no.
               let same = found_answers log (first.file journal_file) is (found tells) in
-              absurd (none why (subst (λ (c : Counters). IsNoLeg target c.progress why) (sym same) no));
+              elim no [
+                | inl refused ↦
+                    absurd (none refused.0 (subst (λ (c : Counters). IsNoLeg target c.progress refused.0) (sym same) refused.1))
+                | inr there ↦ absurd (away (there ∙ sym (ap (λ (c : Counters). c.progress.time) same)))
+              ];
           goes = λ honest h is represents. both.1 honest (record { h = h; is = is; represents = represents });
         })
 
-    pub resume_on : {h3 : H} → Leads m KeepsApart h0 h3
-        → ((h : History) → IsHistory h → RepresentsHistory h (m.contents h0)
+    -- calls that keep what is apart, and come no farther than to the snapshot that is due, where the last leg has ended
+    abbrev pub Resumes : Image → Image → Type 0
+    Resumes start image =
+        KeepsApart start image × (journal.progress.time ≡ journal.progress.target → OpenLeads start image)
+
+    pub resume_on : {h3 : H} → Leads m Resumes h0 h3
+        → ((h : History) → IsHistory h → RepresentsRun h (m.contents h0)
         → EachImage m (GoesOn (ticks_left (progress_of h.log)) h (m.contents h0)) h0 h3)
         → Leads m (ResumeLeads m.crashes.is_honest) h0 h3
     resume_on leads each =
@@ -141,7 +131,10 @@ module _ {H : Type 0} (m : HostModel H) (target : ℕ) {h0 : H} (durable : IsDur
         (λ s. each s.h s.is s.represents) in
         leads_from_durable _ (ResumeLeads m.crashes.is_honest) durable joined
         (λ tells image both. record {
-          session = session_by_found tells image both.0;
+          session = session_by_found tells image both.0.0;
+          still = λ log is ended.
+              let same = found_answers log (first.file journal_file) is (found tells) in
+              (both.0.1 (subst (λ (c : Counters). c.progress.time ≡ c.progress.target) (sym same) ended)).snapshot log is;
           goes = λ honest h is represents. both.1 honest (record { h = h; is = is; represents = represents });
         })
 
@@ -186,7 +179,7 @@ module _ {H : Type 0} (m : HostModel H) (target : ℕ) (h : History) (first : Im
   leg = leg_of target h journal begun.at.answers next
 
   clean_now : IsCleanNow m h.log h1
-  clean_now = ready_then m (λ tells. begun.at.represents.files.journal) begun.at.durable
+  clean_now = ready_then m (λ tells. begun.at.represents.journal) begun.at.durable
 
   said_first : (m.contents h1).said channels.Out ≡ first.said channels.Out
   said_first = begun.said ∙ append-nil (first.said channels.Out)
@@ -198,34 +191,37 @@ module _ {H : Type 0} (m : HostModel H) (target : ℕ) (h : History) (first : Im
       let same = λ (number : ℕ) (apart : journal_file ≢ number). other_file appends.others number apart in
       let out = ap (λ (f : Channel → List ℕ). f channels.Out) appends.others.said in
       elim appends.either [
-        | inl clean ↦ inl (goes_from {before = m.contents h1} begun.kept said_first (record {
+        | inl clean ↦ inl (goes_from {before = m.contents h1} begun.kept begun.others said_first (record {
           done = 0;
           few = omega arith;
           represents = still clean;
           kept = λ j within finished. same (snap_of j) (omega arith);
-          said = (0, omega arith, out ∙ sym (append-nil ((m.contents h1).said channels.Out)));
+          others = λ j passed. same (snap_of j) (omega arith);
+          said = out;
+          first = λ opened. out ∙ sym (append-nil ((m.contents h1).said channels.Out));
         }))
         | inr has ↦
             let both = represents_legged h target (m.contents h1) image begun.at.is leg begun.at.represents has.opened.others has.opened.journal in
             let longer_ticks = ticks-legged target h in
             inr (
               both.0,
-              goes_from {before = m.contents h1} (λ j within finished. begun.kept j (omega (arith, within, longer_ticks)) finished) said_first (record {
-                done = 0;
-                few = omega arith;
-                represents = both.1;
-                kept = λ j within finished. same (snap_of j) (omega arith);
-                said = (0, omega arith, out ∙ sym (append-nil ((m.contents h1).said channels.Out)));
-              }),
+              goes_from {before = m.contents h1} (λ j within finished. begun.kept j (omega (arith, within, longer_ticks)) finished)
+                  (λ j passed. begun.others j (subst (λ (k : ℕ). IsPassed k 0 j) longer_ticks passed)) said_first (record {
+                    done = 0;
+                    few = omega arith;
+                    represents = both.1;
+                    kept = λ j within finished. same (snap_of j) (omega arith);
+                    others = λ j passed. same (snap_of j) (omega arith);
+                    said = out;
+                    first = λ opened. out ∙ sym (append-nil ((m.contents h1).said channels.Out));
+                  }),
             )
       ] where
-        still : IsCleanJournal h.log (image.file journal_file) → RepresentsHistory h image
-        still clean = record {
-          files = spared h.log (run_of h) (ticks_of h) (m.contents h1) image begun.at.represents.files clean
-              (other_file appends.others init_file (omega arith)) (other_file appends.others (slot_of (ticks_of h)) (omega arith))
-              (λ j some within. other_file appends.others (snap_of j) (omega arith));
-          told = subst (IsToldUpTo (ticks_of h)) (sym (ap (λ (f : Channel → List ℕ). f channels.Out) appends.others.said)) begun.at.represents.told;
-        }
+        still : IsCleanJournal h.log (image.file journal_file) → RepresentsRun h image
+        still clean =
+            spared h.log (run_of h) (ticks_of h) (m.contents h1) image begun.at.represents clean
+            (other_file appends.others init_file (omega arith)) (other_file appends.others (slot_of (ticks_of h)) (omega arith))
+            (λ j some within. other_file appends.others (snap_of j) (omega arith))
 
   pub leg_each : {h2 : H} → ((log : Log) → Answers log journal → IsCleanNow m log h1
       → ImagesFollow m.crashes h1 h2 (Appends log (Leg target) (m.contents h1)))
@@ -236,7 +232,7 @@ module _ {H : Type 0} (m : HostModel H) (target : ℕ) (h : History) (first : Im
 
   -- behind the leg
   module _ {h2 : H} (log_next : IsCleanJournal (with_entry h.log (Leg target)) ((m.contents h2).file journal_file)) (durable : IsDurable m h2) (others : AgreesOutside (journal_file ∷ []) (m.contents h1) (m.contents h2)) where
-    both : IsHistory (legged target h) × RepresentsHistory (legged target h) (m.contents h2)
+    both : IsHistory (legged target h) × RepresentsRun (legged target h) (m.contents h2)
     both = represents_legged h target (m.contents h1) (m.contents h2) begun.at.is leg begun.at.represents others log_next
 
     pub leg_at : IsAt m (legged target h) (counters_after (Leg target) journal) h2
@@ -251,7 +247,7 @@ module _ {H : Type 0} (m : HostModel H) (target : ℕ) (h : History) (first : Im
     -- a snapshot that is due with the leg was due without it
     pub leg_date : IsUpToDate m (legged target h) h2
     leg_date j due within =
-        let lawful = begun.at.represents.files.journal.journal.lawful in
+        let lawful = begun.at.represents.journal.journal.lawful in
         let up_to : j ≤ ticks_of h = omega (arith, within, ticks-legged target h) in
         let was = due-shorter target (run_of h) j (leads-away target h leg) (omega (arith, up_to, ticks-within h lawful))
         (subst (λ run. IsDue run j) (run-legged target h) due) in
@@ -263,9 +259,15 @@ module _ {H : Type 0} (m : HostModel H) (target : ℕ) (h : History) (first : Im
         let up_to : j ≤ ticks_of h = omega (arith, within, ticks-legged target h) in
         other_file others (snap_of j) (omega arith) ∙ begun.kept j up_to finished
 
+    pub leg_others : (j : ℕ) → IsPassed (ticks_of (legged target h)) 0 j
+        → (m.contents h2).file (snap_of j) ≡ first.file (snap_of j)
+    leg_others j passed =
+        other_file others (snap_of j) (omega arith)
+        ∙ begun.others j (subst (λ (k : ℕ). IsPassed k 0 j) (ticks-legged target h) passed)
+
     pub leg_said : (m.contents h2).said channels.Out ≡ first.said channels.Out
     leg_said = ap (λ (f : Channel → List ℕ). f channels.Out) others.said ∙ said_first
 
     pub leg_goes : {image : Image} {most : ℕ} → GoesOn most (legged target h) (m.contents h2) image
         → GoesOn most (legged target h) first image
-    leg_goes goes = goes_from leg_kept leg_said goes
+    leg_goes goes = goes_from leg_kept leg_others leg_said goes

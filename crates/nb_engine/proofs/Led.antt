@@ -1,21 +1,26 @@
 -- Where a run is when its last leg has ended.
-use Rattle.std.proofs.Common.{◌≡◌, ◌≢◌, ℕ, suc, ◌⊎◌, inl, inr, Bool, true, false, List, [], ◌∷◌, refl, sym, ap, subst, ◌∙◌, arith}
+use Rattle.std.proofs.Common.{◌≡◌, ◌≢◌, ℕ, zero, suc, ◌≤◌, ◌⊎◌, inl, inr, Bool, true, false, List, [], ◌∷◌, length, refl, sym, ap, subst, ◌∙◌, arith}
 use Rattle.std.specs.Prelude.{Contains, ◌==◌, if◌then◌else◌}
 use Rattle.std.specs.Int.{abs_diff}
 use Rattle.std.proofs.lemmas.Bool.Decides.{nat_tests}
 use Rattle.nb_host.specs.Image.{Image}
 use Rattle.nb_host.specs.Meaning.{HostModel}
 use Rattle.nb_model.specs.Leapfrog.{escaped_count}
+use Rattle.nb_format.specs.Snapshot.{IsFinishedSnapshot}
 use Rattle.nb_journal.specs.Counters.{Counters, Answers, counters_after}
 use Rattle.nb_journal.specs.declared.entry.Entry.{Entry}
 use Rattle.nb_journal.specs.declared.entry.Entry.TheVariants.{Leg, Tick}
 use Rattle.nb_journal.specs.Entries.{Progress, progress_after, after_all}
-use Rattle.nb_journal.specs.Form.{begun, progress_of}
+use Rattle.nb_journal.specs.Form.{IsLawful, begun, progress_of}
 use Rattle.nb_engine.specs.declared.going.Done.{Done}
-use Rattle.nb_engine.specs.Histories.{state_of, History, run_of, ticks_of, IsHistory, legged}
+use Rattle.nb_engine.specs.Files.{init_file}
+use Rattle.nb_engine.specs.Histories.{state_of, time_of, IsDue, History, run_of, ticks_of, IsHistory, legged}
+use Rattle.nb_engine.specs.Represents.{snap_of, Represents}
 use Rattle.nb_engine.specs.Sessions.{ticks_left, aimed_at, ticks_to, IsLed}
-use Rattle.nb_engine.specs.Steps.{played, HasPlayed, IsUpToDate}
+use Rattle.nb_engine.specs.Steps.{played, IsAt, HasPlayed, IsUpToDate}
+use Rattle.nb_engine.proofs.DueNow.{due_by}
 use Rattle.nb_engine.proofs.LongerLogs.{ticks-ended}
+use Rattle.nb_engine.proofs.Paths.{time-now}
 
 -- ---- how many bodies are out
 
@@ -73,27 +78,67 @@ gone-now h is = elim (last_tick (begun h.log) h.log.entries) [
       none.gone_is ∙ is.gone ∙ ap (λ (k : ℕ). escaped_count (state_of (run_of h) k)) (sym none.ticks)
 ]
 
+-- ---- back at the time of the begin
+
+-- what is known of finished snapshots of that time
+abbrev pub SnapshotIsBack : Type 0
+SnapshotIsBack = (h : History) (image : Image) (i : ℕ) → IsHistory h → Represents h.log (run_of h) (ticks_of h) image
+    → escaped_count (state_of (run_of h) (ticks_of h)) ≡ escaped_count h.bodies → 1 ≤ i → i ≤ ticks_of h
+    → time_of (run_of h) i ≡ h.log.begin_time → IsFinishedSnapshot (length h.bodies) (image.file (snap_of i))
+    → image.file (snap_of i) ≡ image.file init_file
+
+begin_time-played : (n : ℕ) (h : History) → (played n h).log.begin_time ≡ h.log.begin_time
+begin_time-played zero h = refl
+begin_time-played (suc n) h = begin_time-played n h
+
+begin_gone-played : (n : ℕ) (h : History) → (played n h).log.begin_gone ≡ h.log.begin_gone
+begin_gone-played zero h = refl
+begin_gone-played (suc n) h = begin_gone-played n h
+
+-- a snapshot is due after the last tick where its leg has ended
+due_ended : (h : History) → IsLawful h.log → 1 ≤ ticks_of h → (progress_of h.log).time ≡ (progress_of h.log).target
+    → IsDue (run_of h) (ticks_of h)
+due_ended h lawful some ended = due_by h lawful (some, inr ended)
+
+-- So that of the last tick of a leg is the initial one.
+back_again : SnapshotIsBack → {H : Type 0} {m : HostModel H} (h : History) {journal : Counters} {host : H} → IsAt m h journal host
+    → IsUpToDate m h host → (progress_of h.log).time ≡ (progress_of h.log).target
+    → (progress_of h.log).time ≡ h.log.begin_time → 1 ≤ ticks_of h → (progress_of h.log).gone ≡ h.log.begin_gone
+    → (m.contents host).file (snap_of (ticks_of h)) ≡ (m.contents host).file init_file
+back_again law {m = m} h {host = host} at date ended time some gone =
+    let lawful = at.represents.journal.journal.lawful in
+    law h (m.contents host) (ticks_of h) at.is at.represents (sym (gone-now h at.is) ∙ gone ∙ at.is.gone) some (omega arith)
+    (sym (time-now h lawful) ∙ time) (date (ticks_of h) (due_ended h lawful some ended) (omega arith))
+
 -- ---- at the end of a leg
 
-pub led : {H : Type 0} {m : HostModel H} {n : ℕ} {h : History} {first : Image} {journal : Counters} {host : H} {done : Done}
-    → HasPlayed m n h first journal host → IsUpToDate m (played n h) host → journal.progress.time ≡ journal.progress.target
+pub led : SnapshotIsBack → {H : Type 0} {m : HostModel H} {n : ℕ} {h : History} {first : Image} {journal : Counters} {host : H}
+    {done : Done} → HasPlayed m n h first journal host → IsUpToDate m (played n h) host → journal.progress.time ≡ journal.progress.target
     → done.time ≡ journal.progress.time → done.ticks ≡ journal.progress.ticks → done.gone ≡ journal.progress.gone
     → IsLed n h first done (m.contents host)
-led {n = n} {h = h} has date ended time ticks gone =
+led law {m = m} {n = n} {h = h} {host = host} {done = done} has date ended time ticks gone =
     let last = played n h in
     let answers = has.at.answers in
     let closed = subst (λ (c : Counters). c.progress.time ≡ c.progress.target) answers ended in
     record {
       is = has.at.is;
       represents = has.at.represents;
-      ended = sym (ticks-ended last has.at.represents.files.journal.journal.lawful closed);
+      ended = sym (ticks-ended last has.at.represents.journal.journal.lawful closed);
       complete = date;
       kept = has.kept;
+      others = has.others;
       said = has.said;
       cells = has.cells;
       time_is = time ∙ ap (λ (c : Counters). c.progress.time) answers;
       ticks_is = ticks ∙ ap (λ (c : Counters). c.progress.ticks) answers;
       gone_is = gone ∙ ap (λ (c : Counters). c.progress.gone) answers ∙ gone-now last has.at.is;
+      back = λ again some none.
+          let number : done.ticks ≡ ticks_of last = ticks ∙ ap (λ (c : Counters). c.progress.ticks) answers in
+          subst (λ (k : ℕ). (m.contents host).file (snap_of k) ≡ (m.contents host).file init_file) (sym number)
+          (back_again law last has.at date closed
+          (sym (time ∙ ap (λ (c : Counters). c.progress.time) answers) ∙ again ∙ sym (begin_time-played n h))
+          (subst (λ (k : ℕ). 1 ≤ k) number some)
+          (sym (gone ∙ ap (λ (c : Counters). c.progress.gone) answers) ∙ none ∙ sym (begin_gone-played n h)));
     }
 
 -- ---- where a session aims

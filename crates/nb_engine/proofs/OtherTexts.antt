@@ -3,7 +3,7 @@ use Rattle.std.proofs.Common.{◌≡◌, ℕ, zero, suc, ◌+◌, ◌-◌, ◌%�
 use Rattle.std.specs.List.{All, list_all, list_any}
 use Rattle.std.proofs.Math.ListN.{get_or-append}
 use Rattle.std.proofs.lemmas.Bool.{cases_lt}
-use Rattle.std.proofs.lemmas.Fmt.{decimal_by_steps}
+use Rattle.std.proofs.lemmas.Fmt.{decimal_by_steps, decimal_by_steps_wide}
 use Rattle.std.proofs.lemmas.List.{get_or-append-add, append-nil}
 use Rattle.std.proofs.lemmas.List.Elements.{All-append}
 use Rattle.std.proofs.lemmas.List.FromFn.{get_or-range_with_len}
@@ -12,7 +12,7 @@ use Rattle.nb_model.specs.declared.edge.Edge.{Edge}
 use Rattle.nb_model.specs.declared.edge.Edge.TheVariants.{Open, Wrap}
 use Rattle.nb_model.specs.declared.params.Params.{Params}
 use Rattle.nb_model.specs.Valid.{AreInRange}
-use Rattle.nb_format.specs.Lines.{started_line, tick_line, done_line, folder_line, once_line}
+use Rattle.nb_format.specs.Lines.{started_line, tick_line, done_line, folder_line, once_line, made_line, demo_line}
 use Rattle.nb_format.specs.ParamsText.{edge_text, canonical_text}
 use Rattle.nb_engine.specs.Acknowledged.{IsForeignByte, IsOtherText}
 
@@ -41,6 +41,21 @@ number {test} {front} passes n fits = record {
   digits = passes.digits;
   each = All-append (λ b. test b ≡ true) front (decimal n) passes.each
       (decimal_by_steps (λ m text. All (λ b. test b ≡ true) text) digit
+      (λ m text more pass. All-append (λ b. test b ≡ true) text ((48 + m % 10) ∷ []) pass (digit (m % 10) (omega arith)))
+      n fits);
+} where
+  digit : (m : ℕ) → m < 10 → All (λ b. test b ≡ true) ((48 + m) ∷ [])
+  digit m small zero d below =
+      subst (λ b. test b ≡ true) (get_or-range_with_len 48 10 m 0 small)
+      (AllPass-from_list_all test (codes "0123456789") passes.digits m 0 small)
+  digit m small (suc i) d below = absurd (omega arith)
+
+-- a front of a line, with a sum behind it, which may be above 2 ^ 64
+wide_number : {test : ℕ → Bool} {front : List ℕ} → Passes test front → (n : ℕ) → n < 10 ^ 64 → Passes test (front ++ decimal n)
+wide_number {test} {front} passes n fits = record {
+  digits = passes.digits;
+  each = All-append (λ b. test b ≡ true) front (decimal n) passes.each
+      (decimal_by_steps_wide (λ m text. All (λ b. test b ≡ true) text) digit
       (λ m text more pass. All-append (λ b. test b ≡ true) text ((48 + m % 10) ∷ []) pass (digit (m % 10) (omega arith)))
       n fits);
 } where
@@ -130,7 +145,7 @@ append_is_other {a} {b} first second = record {
       ];
 }
 
--- ---- the lines of a run, of `once` and of `show`
+-- ---- the lines of a run, of `once`, `show`, `make` and `demo`
 
 pub once_is_other : (time ticks out : ℕ) → time < 2 ^ 64 → ticks < 2 ^ 64 → out < 2 ^ 64
     → IsOtherText (once_line time ticks out)
@@ -159,6 +174,16 @@ folder_is_other time ticks target bodies out few_time few_ticks few_target few_b
     ends (number (word (number (word (number (word (number (word (number (begin (codes "folder time ") refl) time few_time)
     (codes " ticks ") refl) ticks few_ticks) (codes " target ") refl) target few_target) (codes " bodies ") refl)
     bodies few_bodies) (codes " out ") refl) out few_out) 0 (omega arith) refl
+
+pub made_is_other : (bodies : ℕ) → bodies < 2 ^ 64 → IsOtherText (made_line bodies)
+unfolding made_line
+made_is_other bodies few = ends (number (begin (codes "made bodies ") refl) bodies few) 1 (omega arith) refl
+
+pub demo_is_other : (bodies out sum : ℕ) → bodies < 2 ^ 64 → out < 2 ^ 64 → sum < 10 ^ 64 → IsOtherText (demo_line bodies out sum)
+unfolding demo_line
+demo_is_other bodies out sum few_bodies few_out few_sum =
+    ends (wide_number (word (number (word (number (begin (codes "demo bodies ") refl) bodies few_bodies) (codes " out ") refl)
+    out few_out) (codes " sum ") refl) sum few_sum) 0 (omega arith) refl
 
 -- ---- the lines of the parameters
 

@@ -1,6 +1,6 @@
 -- A history some ticks later, and ticks after ticks that are done.
-use Rattle.std.proofs.Common.{◌≡◌, ◌≢◌, ℕ, zero, suc, ◌+◌, ◌≤◌, List, ◌++◌, length, take, refl, sym, ap, subst, ◌∙◌, arith, append-nil, append_assoc, length-append}
-use Rattle.std.proofs.Math.Seq.{take-append-add}
+use Rattle.std.proofs.Common.{◌≡◌, ◌≢◌, ◌⊎◌, inl, inr, ℕ, zero, suc, ◌+◌, ◌≤◌, List, [], ◌++◌, length, take, refl, sym, ap, subst, ◌∙◌, arith, append-nil, append_assoc}
+use Rattle.std.proofs.Math.Seq.{take-length}
 use Rattle.nb_host.specs.declared.host.Channel.TheVariants as channels
 use Rattle.nb_host.specs.Image.{Image}
 use Rattle.nb_host.specs.Meaning.{HostModel}
@@ -11,8 +11,8 @@ use Rattle.nb_journal.specs.Counters.{Counters}
 use Rattle.nb_tick.specs.Slots.{cell_file}
 use Rattle.nb_tick.specs.State.{IsCellIndexOf}
 use Rattle.nb_engine.specs.Histories.{Run, state_of, History, run_of, ticks_of, IsHistory, ticked}
-use Rattle.nb_engine.specs.Represents.{snap_of, RepresentsHistory}
-use Rattle.nb_engine.specs.Steps.{line_of, lines_behind, SaidFrontOf, played, IsAt, GoesOn, HasPlayed}
+use Rattle.nb_engine.specs.Represents.{snap_of, IsOpened, RepresentsRun}
+use Rattle.nb_engine.specs.Steps.{line_of, lines_behind, SaidLinesOf, played, IsAt, IsPassed, GoesOn, HasPlayed}
 use Rattle.nb_engine.proofs.LongerLogs.{run-ticked, ticks-ticked, history-ticked}
 
 -- ---- a history some ticks later
@@ -73,43 +73,131 @@ lines-played h n m =
     ∙ ap (λ (i : ℕ). lines_behind run k n ++ lines_behind run i m) number
     ∙ ap (λ (r : Run). lines_behind run k n ++ lines_behind r (ticks_of (played n h)) m) (sym (run-played n h))
 
--- none of them was said
-pub front_none : (text said : List ℕ) → SaidFrontOf text said said
-front_none text said = (0, omega arith, sym (append-nil said))
+-- a front of the first
+pub said_first : (run : Run) (k n : ℕ) (line old new : List ℕ) → line ≡ line_of run (suc k) → n ≤ length line
+    → new ≡ old ++ take n line → SaidLinesOf run k 1 old new
+said_first run k n line old new is within said =
+    let same : k ≡ k + 0 = omega arith in
+    let one : line ≡ line_of run (suc (k + 0)) = is ∙ ap (λ (i : ℕ). line_of run (suc i)) same in (
+      n,
+      subst (λ (l : List ℕ). n ≤ length l) one within,
+      said ∙ ap (λ (l : List ℕ). l ++ take n line) (sym (append-nil old)) ∙ ap (λ (l : List ℕ). (old ++ []) ++ take n l) one,
+    )
 
--- all of the first and a front of the rest
-pub front_behind : (first rest old new : List ℕ) {all middle : List ℕ} → all ≡ first ++ rest → middle ≡ old ++ first
-    → SaidFrontOf rest middle new → SaidFrontOf all old new
-front_behind first rest old new whole here front = (
-  length first + front.0,
-  omega (arith, front.1, ap length whole, length-append first rest),
-  front.2
-      ∙ ap (λ (said : List ℕ). said ++ take front.0 rest) here
-      ∙ append_assoc old first (take front.0 rest)
-      ∙ ap (λ (said : List ℕ). old ++ said)
-      (sym (ap (take (length first + front.0)) whole ∙ take-append-add first rest front.0)),
-)
+-- all of them
+said_whole : (run : Run) (k n : ℕ) (old new : List ℕ) → new ≡ old ++ lines_behind run k n → SaidLinesOf run k n old new
+said_whole run k zero old new is = is ∙ append-nil old
+said_whole run k (suc n) old new is =
+    let line = line_of run (suc (k + n)) in
+    let lines = lines_behind run k n in (
+      length line,
+      omega arith,
+      is ∙ sym (append_assoc old lines line) ∙ ap (λ (l : List ℕ). (old ++ lines) ++ l) (sym (take-length line)),
+    )
+
+-- all of the first n, and those of more ticks but a part of the last
+said_then : (run : Run) (k n d : ℕ) (old middle new : List ℕ) → middle ≡ old ++ lines_behind run k n
+    → SaidLinesOf run (k + n) d middle new → SaidLinesOf run k (n + d) old new
+said_then run k n zero old middle new here said =
+    let none : n + 0 ≡ n = omega arith in
+    subst (λ (i : ℕ). SaidLinesOf run k i old new) (sym none) (said_whole run k n old new (said ∙ here))
+said_then run k n (suc d) old middle new here said =
+    let more : n + suc d ≡ suc (n + d) = omega arith in
+    let number : k + n + d ≡ k + (n + d) = omega arith in
+    let rest = lines_behind run (k + n) d in
+    let lines : middle ++ rest ≡ old ++ lines_behind run k (n + d) =
+    ap (λ (l : List ℕ). l ++ rest) here ∙ append_assoc old (lines_behind run k n) rest
+    ∙ ap (λ (l : List ℕ). old ++ l) (sym (lines-more run k n d)) in
+    let line : line_of run (suc (k + n + d)) ≡ line_of run (suc (k + (n + d))) =
+    ap (λ (i : ℕ). line_of run (suc i)) number in
+    subst (λ (i : ℕ). SaidLinesOf run k i old new) (sym more) (
+      said.0,
+      subst (λ (l : List ℕ). said.0 ≤ length l) line said.1,
+      said.2 ∙ ap (λ (l : List ℕ). l ++ take said.0 (line_of run (suc (k + n + d)))) lines
+          ∙ ap (λ (l : List ℕ). (old ++ lines_behind run k (n + d)) ++ take said.0 l) line,
+    )
+
+-- ---- ticks whose snapshot's name isn't written
+
+pub passed_apart : (k n j : ℕ) → IsPassed k n j → j ≢ k
+passed_apart k n j (inl before) same = omega (arith, before, same)
+passed_apart k n j (inr behind) same = omega (arith, behind, same)
+
+-- while fewer are taken
+pub passed_fewer : (k n more j : ℕ) → n ≤ more → IsPassed k more j → IsPassed k n j
+passed_fewer k n more j fewer (inl before) = inl before
+passed_fewer k n more j fewer (inr behind) = inr (omega (arith, behind, fewer))
+
+-- while the last of them are taken
+passed_behind : (k n m all last j : ℕ) → last ≡ n + k → all ≡ n + m → IsPassed k all j → IsPassed last m j
+passed_behind k n m all last j here both (inl before) = inl (omega (arith, before, here))
+passed_behind k n m all last j here both (inr behind) = inr (omega (arith, behind, here, both))
+
+-- ---- of another first image
+
+-- calls that kept what was finished, wrote the name of the last tick's snapshot alone, and said nothing, came before
+pub goes_from : {most : ℕ} {h : History} {first before image : Image}
+    → ((j : ℕ) → j ≤ ticks_of h → IsFinishedSnapshot (length h.bodies) (first.file (snap_of j))
+    → before.file (snap_of j) ≡ first.file (snap_of j))
+    → ((j : ℕ) → IsPassed (ticks_of h) 0 j → before.file (snap_of j) ≡ first.file (snap_of j))
+    → before.said channels.Out ≡ first.said channels.Out → GoesOn most h before image → GoesOn most h first image
+goes_from {most = most} {h = h} {first = first} {before = before} {image = image} kept others said goes = record {
+  done = goes.done;
+  few = goes.few;
+  represents = goes.represents;
+  kept = λ j within finished.
+      let same = kept j within finished in
+      goes.kept j within (subst (IsFinishedSnapshot (length h.bodies)) (sym same) finished) ∙ same;
+  others = λ j passed. goes.others j passed ∙ others j (elim passed [
+    | inl next ↦ passed_fewer (ticks_of h) 0 (suc goes.done) j (omega arith) next
+    | inr last ↦ passed_fewer (ticks_of h) 0 most j (omega arith) last
+  ]);
+  said = subst (λ (bytes : List ℕ). SaidLinesOf (run_of h) (ticks_of h) goes.done bytes (image.said channels.Out)) said goes.said;
+  first = λ opened. goes.first opened ∙ ap (λ (bytes : List ℕ). bytes ++ lines_behind (run_of h) (ticks_of h) goes.done) said;
+}
+
+pub played_from : {H : Type 0} {m : HostModel H} {n : ℕ} {h : History} {first before : Image} {journal : Counters} {host : H}
+    → ((j : ℕ) → j ≤ ticks_of h → IsFinishedSnapshot (length h.bodies) (first.file (snap_of j))
+    → before.file (snap_of j) ≡ first.file (snap_of j))
+    → ((j : ℕ) → IsPassed (ticks_of h) 0 j → before.file (snap_of j) ≡ first.file (snap_of j))
+    → before.said channels.Out ≡ first.said channels.Out → HasPlayed m n h before journal host → HasPlayed m n h first journal host
+played_from {n = n} {h = h} {first = first} kept others said has = record {
+  at = has.at;
+  kept = λ j within finished.
+      let same = kept j within finished in
+      has.kept j within (subst (IsFinishedSnapshot (length h.bodies)) (sym same) finished) ∙ same;
+  others = λ j passed. has.others j passed ∙ others j (passed_fewer (ticks_of h) 0 n j (omega arith) passed);
+  said = has.said ∙ ap (λ (l : List ℕ). l ++ lines_behind (run_of h) (ticks_of h) n) said;
+  cells = has.cells;
+}
 
 -- ---- what a folder may hold since
 
 -- none came behind
-pub goes_none : {h : History} {image : Image} → RepresentsHistory h image → GoesOn 0 h image image
+pub goes_none : {h : History} {image : Image} → RepresentsRun h image → GoesOn 0 h image image
 goes_none {h} {image} represents = record {
   done = 0;
   few = omega arith;
   represents = represents;
   kept = λ j within finished. refl;
-  said = front_none (lines_behind (run_of h) (ticks_of h) 0) (image.said channels.Out);
+  others = λ j passed. refl;
+  said = refl;
+  first = λ opened. sym (append-nil (image.said channels.Out));
 }
 
 pub goes_more : (few more : ℕ) {h : History} {before image : Image} → GoesOn few h before image → few ≤ more
     → GoesOn more h before image
-goes_more few more goes less = record {
+goes_more few more {h} goes less = record {
   done = goes.done;
   few = omega (arith, goes.few, less);
   represents = goes.represents;
   kept = goes.kept;
+  others = λ j passed. goes.others j (elim passed [
+    | inl next ↦ inl next
+    | inr last ↦ inr (passed_fewer (ticks_of h) few more j less last)
+  ]);
   said = goes.said;
+  first = goes.first;
 }
 
 -- what was finished when so many were done is as it was
@@ -134,12 +222,33 @@ pub goes_then : {H : Type 0} (m : HostModel H) (n most : ℕ) {h : History} {bef
 goes_then m n most {h} {before} {image} {host = host} first later = record {
   done = n + later.done;
   few = omega (arith, later.few);
-  represents = subst (λ (x : History). RepresentsHistory x image) (played-more n later.done h) later.represents;
+  represents = subst (λ (x : History). RepresentsRun x image) (played-more n later.done h) later.represents;
   kept = later_kept m n image first later.kept;
+  others = λ j passed.
+      let k = ticks_of h in
+      let here = ticks-played n h in
+      later.others j (elim passed [
+        | inl next ↦ inl (passed_behind k n (suc later.done) (suc (n + later.done)) (ticks_of (played n h)) j here (omega arith) next)
+        | inr last ↦ inr (passed_behind k n most (n + most) (ticks_of (played n h)) j here refl last)
+      ])
+      ∙ first.others j (elim passed [
+        | inl next ↦ passed_fewer k n (suc (n + later.done)) j (omega arith) next
+        | inr last ↦ passed_fewer k n (n + most) j (omega arith) last
+      ]);
   said =
-      front_behind (lines_behind (run_of h) (ticks_of h) n)
-      (lines_behind (run_of (played n h)) (ticks_of (played n h)) later.done) (before.said channels.Out)
-      (image.said channels.Out) (lines-played h n later.done) first.said later.said;
+      let number : ticks_of (played n h) ≡ ticks_of h + n = omega (arith, ticks-played n h) in
+      said_then (run_of h) (ticks_of h) n later.done (before.said channels.Out) ((m.contents host).said channels.Out)
+      (image.said channels.Out) first.said
+      (subst (λ (k : ℕ). SaidLinesOf (run_of h) k later.done ((m.contents host).said channels.Out) (image.said channels.Out)) number
+      (subst (λ (run : Run). SaidLinesOf run (ticks_of (played n h)) later.done ((m.contents host).said channels.Out)
+      (image.said channels.Out)) (run-played n h) later.said));
+  first = λ opened.
+      let here : ticks_of h + (n + later.done) ≡ ticks_of (played n h) + later.done = omega (arith, ticks-played n h) in
+      let lines = lines_behind (run_of (played n h)) (ticks_of (played n h)) later.done in
+      later.first (subst (λ (k : ℕ). IsOpened (image.file (snap_of k))) here opened)
+      ∙ ap (λ (bytes : List ℕ). bytes ++ lines) first.said
+      ∙ append_assoc (before.said channels.Out) (lines_behind (run_of h) (ticks_of h) n) lines
+      ∙ ap (λ (bytes : List ℕ). before.said channels.Out ++ bytes) (sym (lines-played h n later.done));
 }
 
 -- ---- ticks that are done and told
@@ -150,6 +259,7 @@ pub played_none : {H : Type 0} (m : HostModel H) {h : History} {journal : Counte
 played_none m {h} {host = host} at = record {
   at = at;
   kept = λ j within finished. refl;
+  others = λ j passed. refl;
   said = sym (append-nil ((m.contents host).said channels.Out));
   cells = λ some. absurd (some refl);
 }
@@ -163,6 +273,10 @@ played_both : {H : Type 0} (m : HostModel H) (n k : ℕ) {h : History} {before :
 played_both m n k {h} {before} {two = two} {middle = middle} {host = host} first second cells = record {
   at = subst (λ (x : History). IsAt m x two host) (played-more n k h) second.at;
   kept = later_kept m n (m.contents host) first second.kept;
+  others = λ j passed.
+      let here = ticks-played n h in
+      second.others j (passed_behind (ticks_of h) n k (n + k) (ticks_of (played n h)) j here refl passed)
+      ∙ first.others j (passed_fewer (ticks_of h) n (n + k) j (omega arith) passed);
   said =
       second.said
       ∙ ap (λ (said : List ℕ). said ++ lines_behind (run_of (played n h)) (ticks_of (played n h)) k) first.said

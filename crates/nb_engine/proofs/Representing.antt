@@ -4,23 +4,20 @@ use Rattle.std.proofs.lemmas.Bool.{cases_eq}
 use Rattle.std.proofs.lemmas.List.Elements.{All-contains, All-from_recursion}
 use Rattle.nb_host.specs.Crashes.{AgreesOutside}
 use Rattle.nb_host.specs.Image.{Image}
-use Rattle.nb_host.specs.declared.host.Channel.TheVariants as channels
 use Rattle.nb_model.specs.Leapfrog.{half_kick}
 use Rattle.nb_format.specs.Snapshot.{IsSnapshot, IsFinishedSnapshot}
 use Rattle.nb_journal.specs.Entries.{IsNextLeg}
 use Rattle.nb_journal.specs.Form.{Log, IsCleanJournal, progress_of}
 use Rattle.nb_journal.specs.Offsets.{journal_file}
 use Rattle.nb_record.specs.Order.{by_key, sorted_by, HoldsBodies, HoldsKickedBodies}
-use Rattle.nb_engine.specs.Acknowledged.{IsToldUpTo}
 use Rattle.nb_engine.specs.Histories.{Run, state_of, time_of, length_of, History, run_of, ticks_of, IsHistory, ticked, legged}
 use Rattle.nb_tick.specs.Slots.{slot_of}
 use Rattle.nb_engine.specs.Files.{init_file}
-use Rattle.nb_engine.specs.Represents.{snap_of, IsOpened, IsSnapshotOf, Represents, RepresentsHistory}
+use Rattle.nb_engine.specs.Represents.{snap_of, IsOpened, IsSnapshotOf, Represents, RepresentsRun}
 use Rattle.nb_engine.specs.Gates.{CanTick}
 use Rattle.nb_engine.proofs.LongerLogs.{run-ticked, ticks-ticked, history-ticked, run-legged, ticks-legged, leads-away, history-legged}
 use Rattle.nb_engine.proofs.LongerRuns.{end_of, longer, state-longer, time-longer, due-longer, due-shorter}
 use Rattle.nb_engine.proofs.Paths.{ticks-within}
-use Rattle.nb_engine.proofs.Told.{told_more}
 
 -- ---- calls that spare what is named
 
@@ -44,16 +41,11 @@ spared log run k old new stands journal init slot snaps =
           subst (IsSnapshotOf run j) (sym same) (stands.right j some within (subst IsOpened same opened));
     }
 
-pub represents_kept : (h : History) (old new : Image) → RepresentsHistory h old → new.file journal_file ≡ old.file journal_file
+pub represents_kept : (h : History) (old new : Image) → RepresentsRun h old → new.file journal_file ≡ old.file journal_file
     → new.file init_file ≡ old.file init_file → new.file (slot_of (ticks_of h)) ≡ old.file (slot_of (ticks_of h))
-    → ((j : ℕ) → 1 ≤ j → j ≤ ticks_of h → new.file (snap_of j) ≡ old.file (snap_of j))
-    → new.said channels.Out ≡ old.said channels.Out → RepresentsHistory h new
-represents_kept h old new stands journal init slot snaps said = record {
-  files =
-      spared h.log (run_of h) (ticks_of h) old new stands.files (subst (IsCleanJournal h.log) (sym journal) stands.files.journal)
-      init slot snaps;
-  told = subst (IsToldUpTo (ticks_of h)) (sym said) stands.told;
-}
+    → ((j : ℕ) → 1 ≤ j → j ≤ ticks_of h → new.file (snap_of j) ≡ old.file (snap_of j)) → RepresentsRun h new
+represents_kept h old new stands journal init slot snaps =
+    spared h.log (run_of h) (ticks_of h) old new stands (subst (IsCleanJournal h.log) (sym journal) stands.journal) init slot snaps
 
 -- a call that changes the journal's file alone
 other_file : (before new : Image) → AgreesOutside (journal_file ∷ []) before new → (number : ℕ) → journal_file ≢ number
@@ -92,22 +84,15 @@ with_tick h log before new stands can agrees journal =
           ];
     }
 
-pub represents_ticked : (h : History) (before new : Image) → IsHistory h → RepresentsHistory h before → CanTick h before
+pub represents_ticked : (h : History) (before new : Image) → IsHistory h → RepresentsRun h before → CanTick h before
     → AgreesOutside (journal_file ∷ []) before new → IsCleanJournal (ticked h).log (new.file journal_file)
-    → IsHistory (ticked h) × RepresentsHistory (ticked h) new
+    → IsHistory (ticked h) × RepresentsRun (ticked h) new
 represents_ticked h before new is stands can agrees journal =
     let log = (ticked h).log in
-    let files = with_tick h log before new stands.files can agrees journal in
-    let said = ap (λ said. said channels.Out) agrees.said in (
+    let files = with_tick h log before new stands can agrees journal in (
       history-ticked h is,
-      record {
-        files =
-            subst (λ run. Represents log run (ticks_of (ticked h)) new) (sym (run-ticked h))
-            (subst (λ k. Represents log (run_of h) k new) (sym (ticks-ticked h)) files);
-        told =
-            subst (IsToldUpTo (ticks_of (ticked h))) (sym said)
-            (told_more (ticks_of h) (ticks_of (ticked h)) (before.said channels.Out) (omega (arith, ticks-ticked h)) stands.told);
-      },
+      subst (λ run. Represents log run (ticks_of (ticked h)) new) (sym (run-ticked h))
+          (subst (λ k. Represents log (run_of h) k new) (sym (ticks-ticked h)) files),
     )
 
 -- ---- the gate of a leg
@@ -138,27 +123,19 @@ with_leg log run target k image apart within stands =
     }
 
 pub represents_legged : (h : History) (target : ℕ) (before new : Image) → IsHistory h → IsNextLeg (progress_of h.log) target
-    → RepresentsHistory h before → AgreesOutside (journal_file ∷ []) before new
+    → RepresentsRun h before → AgreesOutside (journal_file ∷ []) before new
     → IsCleanJournal (legged target h).log (new.file journal_file)
-    → IsHistory (legged target h) × RepresentsHistory (legged target h) new
+    → IsHistory (legged target h) × RepresentsRun (legged target h) new
 represents_legged h target before new is next stands agrees journal =
     let log = (legged target h).log in
     let run = run_of h in
     let k = ticks_of h in
-    let lawful = stands.files.journal.journal.lawful in
+    let lawful = stands.journal.journal.lawful in
     let same = other_file before new agrees in
-    let said = ap (λ said. said channels.Out) agrees.said in
-    let kept = spared log run k before new stands.files journal (same init_file (omega arith)) (same (slot_of k) (omega arith))
+    let kept = spared log run k before new stands journal (same init_file (omega arith)) (same (slot_of k) (omega arith))
     (λ j _ _. same (snap_of j) (omega arith)) in
     let files = with_leg log run target k new (leads-away target h next) (ticks-within h lawful) kept in (
       history-legged target h lawful is next,
-      record {
-        files =
-            subst (λ r. Represents log r (ticks_of (legged target h)) new) (sym (run-legged target h))
-            (subst (λ n. Represents log (longer target run) n new) (sym (ticks-legged target h)) files);
-        told =
-            subst (IsToldUpTo (ticks_of (legged target h))) (sym said)
-            (told_more k (ticks_of (legged target h)) (before.said channels.Out)
-            (omega (arith, ticks-legged target h)) stands.told);
-      },
+      subst (λ r. Represents log r (ticks_of (legged target h)) new) (sym (run-legged target h))
+          (subst (λ n. Represents log (longer target run) n new) (sym (ticks-legged target h)) files),
     )

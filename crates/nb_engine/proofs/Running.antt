@@ -1,8 +1,9 @@
 -- Ticks one after the other, to the end of a leg.
-use Rattle.std.proofs.Common.{◌≡◌, ◌≢◌, ℕ, suc, ◌+◌, ◌<◌, ◌≤◌, IsTrue, IsOk, Result, Ok, Err, List, refl, ap, subst, arith}
+use Rattle.std.proofs.Common.{◌≡◌, ◌≢◌, ℕ, suc, ◌+◌, ◌<◌, ◌≤◌, IsTrue, IsOk, Result, Ok, Err, List, refl, ap, subst, ◌∙◌, arith}
+use Rattle.nb_host.specs.Crashes.{Stays}
 use Rattle.nb_host.specs.Image.{Image}
-use Rattle.nb_host.specs.Meaning.{HostModel, IsDurable}
-use Rattle.nb_host.proofs.Callers.{leads_again, ok_is_no_error}
+use Rattle.nb_host.specs.Meaning.{HostModel, Leads, IsDurable}
+use Rattle.nb_host.proofs.Callers.{leads_again, leads_none, ok_is_no_error}
 use Rattle.nb_model.specs.declared.body.Body.{Body}
 use Rattle.nb_cache.specs.View.{CacheValue}
 use Rattle.nb_journal.specs.declared.entry.Entry.TheVariants.{Tick}
@@ -30,6 +31,8 @@ pub record HasRun {H : Type 0} (m : HostModel H) (n : ℕ) (start journal : Coun
   pub durable : IsDurable m old → IsDurable m host
   pub ran : RanSession {T = Unit {0}} m KeepsApart old host (Ok tt)
   pub left : ticks_left journal.progress + n ≡ ticks_left start.progress
+  pub target : journal.progress.target ≡ start.progress.target
+  pub still : n ≡ 0 → Leads m Stays old host
   pub state : IsTrue m.tells → (bodies : List Body) → HasState start bodies (m.contents old).file
       → (later : List Body) × HasState journal later (m.contents host).file
   pub plays : (h : History) → IsAt m h start old → IsUpToDate m h old
@@ -57,6 +60,8 @@ run_none m journal cache host settled = record {
   durable = λ is. is;
   ran = session_none m host keeps_itself (Ok≢Device tt);
   left = omega arith;
+  target = refl;
+  still = λ none. leads_none m host (λ image. refl);
   state = λ tells bodies has. (bodies, has);
   plays = λ h at up. (played_none m at, up);
   images = λ h at up.
@@ -98,6 +103,10 @@ left_more journal next gone apart is =
     let here = ap (λ (c : Counters). ticks_left c.progress) is in
     omega (arith, here, nearer journal.progress.time journal.progress.target apart)
 
+-- none is left where the leg is at its end
+pub left_none : (journal : Counters) → journal.progress.time ≡ journal.progress.target → ticks_left journal.progress ≡ 0
+left_none journal ended = omega (arith, ended)
+
 -- where some are left, the leg isn't at its end
 pub is_apart : {H : Type 0} {m : HostModel H} {n : ℕ} {start journal : Counters} {cache : CacheValue} {old middle : H}
     → HasRun m n start journal cache old middle → n < ticks_left start.progress
@@ -117,6 +126,8 @@ run_more {m = m} n {start} {journal} {next} {old = old} {middle = middle} {host 
   ran = session_as (run_then run ran) (λ never. absurd (Ok≢Device tt never))
       (λ faulted. absurd (ok_is_no_error ok faulted)) (λ _. ok);
   left = omega (arith, run.left, left_more journal next stepped.counters.0 (is_apart run some) stepped.counters.1);
+  target = ap (λ (c : Counters). c.progress.target) stepped.counters.1 ∙ run.target;
+  still = λ none. absurd (omega (arith, none));
   state = λ tells bodies has.
       let later = run.state tells bodies has in stepped.next_state tells later.0 later.1;
   plays = λ h at up.

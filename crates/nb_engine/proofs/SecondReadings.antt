@@ -31,8 +31,7 @@ use Rattle.nb_order.specs.declared.order_error.OrderError.{OrderError}
 use Rattle.nb_order.specs.declared.order_error.OrderError.TheVariants as order
 use Rattle.nb_order.specs.Files.{page_of_body, HasPushed}
 use Rattle.nb_order.specs.Refusals.{HasNoRoom}
-use Rattle.nb_journal.specs.Offsets.{journal_file}
-use Rattle.nb_tick.specs.Slots.{drifted_file}
+use Rattle.nb_tick.specs.Slots.{slot_of, drifted_file}
 use Rattle.nb_engine.specs.declared.init_file.Census.{Census}
 use Rattle.nb_engine.specs.declared.refusal.Refusal.{Refusal}
 use Rattle.nb_engine.specs.declared.refusal.Refusal.TheVariants as refusal
@@ -41,6 +40,7 @@ use Rattle.nb_engine.specs.Files.{init_file}
 use Rattle.nb_engine.specs.Reading.{census_of, IsPlanned}
 use Rattle.nb_engine.specs.Refusal.{NeedsNoCause, of_second_reading, of_cache, of_order}
 use Rattle.nb_engine.specs.Snapshots.{IsBroken}
+use Rattle.nb_engine.specs.Start.{IsReadFile}
 use Rattle.nb_engine.proofs.CachedCalls.{WentWell}
 use Rattle.nb_engine.proofs.Reading.{HasGiven, HasGiven-more, IsFrontOf-same}
 use Rattle.nb_engine.proofs.Surveys.{census-more}
@@ -81,16 +81,16 @@ cache_needless (cache.Short name) no_page = absurd (no_page name refl)
 -- the initial snapshot isn't what it was
 pub init_broken : {H : Type 0} {m : HostModel H} (Holds : List Body → Type 0) (index : ℕ)
     → (IsTrue m.tells → (bodies : List Body) → Holds bodies → ⊥)
-    → IsBroken m Holds (refusal.Damaged (record { file = init_file; page = index }))
+    → IsBroken m IsReadFile Holds (refusal.Damaged (record { file = init_file; page = index }))
 init_broken Holds index never = record {
   page = record { file = init_file; page = index };
   shown = refl;
-  file = λ same. absurd (omega (arith, same));
+  file = inl refl;
   cause = never;
 }
 
-pub broken_more : {H : Type 0} {m : HostModel H} (Few More : List Body → Type 0) {why : Refusal} → IsBroken m Few why
-    → (IsTrue m.tells → (bodies : List Body) → More bodies → Few bodies) → IsBroken m More why
+pub broken_more : {H : Type 0} {m : HostModel H} (Few More : List Body → Type 0) {why : Refusal} → IsBroken m IsReadFile Few why
+    → (IsTrue m.tells → (bodies : List Body) → More bodies → Few bodies) → IsBroken m IsReadFile More why
 broken_more Few More broken more = record {
   page = broken.page;
   shown = broken.shown;
@@ -99,14 +99,14 @@ broken_more Few More broken more = record {
 }
 
 pub cause_more : {H : Type 0} {m : HostModel H} (Few More : List Body → Type 0) {why : Refusal}
-    → NeedsNoCause why ⊎ IsBroken m Few why → (IsTrue m.tells → (bodies : List Body) → More bodies → Few bodies)
-    → NeedsNoCause why ⊎ IsBroken m More why
+    → NeedsNoCause why ⊎ IsBroken m IsReadFile Few why → (IsTrue m.tells → (bodies : List Body) → More bodies → Few bodies)
+    → NeedsNoCause why ⊎ IsBroken m IsReadFile More why
 cause_more Few More cause more = elim cause [ inl needless ↦ inl needless | inr broken ↦ inr (broken_more Few More broken more) ]
 
 -- why a reader's refusal of a second reading is one
 pub second_cause : {H : Type 0} {m : HostModel H} (Holds : List Body → Type 0) (error : SnapError) (index : ℕ)
     → (IsBySnapshot error → IsTrue m.tells → (bodies : List Body) → Holds bodies → ⊥)
-    → NeedsNoCause (of_second_reading error index) ⊎ IsBroken m Holds (of_second_reading error index)
+    → NeedsNoCause (of_second_reading error index) ⊎ IsBroken m IsReadFile Holds (of_second_reading error index)
 second_cause Holds snap.Fault index never = inl (inl refl)
 second_cause Holds snap.NoMemory index never = inl (inr refl)
 second_cause Holds snap.Short index never = inr (init_broken Holds index (never tt))
@@ -126,20 +126,27 @@ pub refused_never : {file : List ℕ} {error : SnapError} → snapshot_refusal f
     → (bodies : List Body) (time : ℕ) → IsSnapshot file bodies time → ⊥
 refused_never {file} {error} refused = no_snapshot file error refused
 
--- why a refusal of a file of bodies is one, where the damaged page is one of a file but the journal's
+-- why a refusal of a file of bodies is one, where the damaged page is one of a file that `start` reads
 pub order_cause : {H : Type 0} {m : HostModel H} (Holds : List Body → Type 0) (error : OrderError)
     → ((name : PageName) → error ≡ order.Damaged name
-    → (name.file ≢ journal_file) × (IsTrue m.tells → (bodies : List Body) → Holds bodies → ⊥))
-    → NeedsNoCause (of_order error) ⊎ IsBroken m Holds (of_order error)
+    → IsReadFile name.file × (IsTrue m.tells → (bodies : List Body) → Holds bodies → ⊥))
+    → NeedsNoCause (of_order error) ⊎ IsBroken m IsReadFile Holds (of_order error)
 order_cause Holds order.Fault damaged = inl (inl refl)
 order_cause Holds order.NoMemory damaged = inl (inr refl)
 order_cause Holds (order.Damaged name) damaged =
     let known = damaged name refl in
     inr (record { page = name; shown = refl; file = known.0; cause = known.1 })
 
--- a page of the copy's file is none of the journal's
-pub page_apart : {name : PageName} (index : ℕ) → name ≡ page_of_body drifted_file index → name.file ≢ journal_file
-page_apart index is same = let file = ap (λ (n : PageName). n.file) is in absurd (omega (arith, same, file))
+-- the files of the copy and of the first slot are such files
+pub drifted_read : {number : ℕ} → number ≡ drifted_file → IsReadFile number
+drifted_read is = inr (omega (arith, is), omega (arith, is))
+
+pub slot_read : {number : ℕ} → number ≡ slot_of 0 → IsReadFile number
+slot_read is = inr (omega (arith, is), omega (arith, is))
+
+-- a page of the copy's file is one of such a file
+pub page_read : {name : PageName} (index : ℕ) → name ≡ page_of_body drifted_file index → IsReadFile name.file
+page_read index is = drifted_read (ap (λ (n : PageName). n.file) is)
 
 -- ---- the file of the snapshot, while the bodies are copied
 

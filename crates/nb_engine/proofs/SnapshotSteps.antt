@@ -18,7 +18,7 @@ use Rattle.nb_model.specs.declared.body.Body.{Body}
 use Rattle.nb_format.specs.declared.snap_writer.Filling.{Filling}
 use Rattle.nb_format.specs.Images.{IsShutNow, IsBeingWritten, ChangesWith, IsWritten}
 use Rattle.nb_format.specs.Reader.{last_of}
-use Rattle.nb_format.specs.Snapshot.{IsSnapshot}
+use Rattle.nb_format.specs.Snapshot.{IsSnapshot, IsFinishedSnapshot}
 use Rattle.nb_format.specs.Writer.{Plan, plan_of, added_count, last_added, IsEmptyFilling, HasOneMore, HasFilled, IsBegun, StaysShut, StaysUnfinished, IsFinishedAs, Closes}
 use Rattle.nb_format.proofs.Callers.{being_begun, add_leads, being_added, being_kept, close_leads}
 use Rattle.nb_format.proofs.Reading.{last_of-push}
@@ -35,9 +35,9 @@ use Rattle.nb_order.specs.Refusals.{IsNoBody, IsUnsorted}
 use Rattle.nb_tick.specs.Slots.{slot_of, sorted_file}
 use Rattle.nb_tick.proofs.Callers.{seen_written}
 use Rattle.nb_journal.specs.Counters.{Counters}
-use Rattle.nb_journal.specs.Offsets.{journal_file}
 use Rattle.nb_engine.specs.declared.refusal.Refusal.{Refusal}
 use Rattle.nb_engine.specs.declared.refusal.Refusal.TheVariants as refusal
+use Rattle.nb_engine.specs.Files.{IsPagedFile}
 use Rattle.nb_engine.specs.Frame.{RanSession}
 use Rattle.nb_engine.specs.Refusal.{of_host, of_order, NeedsNoCause}
 use Rattle.nb_engine.specs.Represents.{snap_of}
@@ -96,6 +96,9 @@ order_cause (order.Damaged name) named = inr (named name refl)
 -- the file of a snapshot is neither one that goes through a cache nor the sorted one
 never_cached : (file : ℕ) → 16 ≤ file → IsCachedFile file → ⊥
 never_cached file high cached = absurd (omega (arith, cached.greatest))
+
+sorted_paged : IsPagedFile sorted_file
+sorted_paged = (omega arith, omega arith)
 
 sorted_apart : (file : ℕ) → 16 ≤ file → sorted_file ≢ file
 sorted_apart file high same = absurd (omega (arith, same))
@@ -209,7 +212,7 @@ well_ran ran ok leads = session_by (session_ran ran (λ same. absurd (never_devi
 pub well_syncing : {H T E : Type 0} {m : HostModel H} {syncs : ℕ} {fault : E} {files : List ℕ} {by : Image → Image → Type 0}
     {old new : H} {one : Result T E} → RanSyncing m syncs fault by old new one → IsOk one
     → Leads m (AgreesOutside files) old new → WentWell m files old new
-well_syncing ran ok leads = session_by (session_syncing ran (λ same. absurd (never_device same)) (fine ok)) leads
+well_syncing ran ok leads = session_by (session_syncing ran (λ same. absurd (never_device same)) (fine ok) (λ _. ok)) leads
 
 -- others after them, among the same files
 pub well_then : {H T U : Type 0} {m : HostModel H} {files : List ℕ} {old middle new : H} {one : Result T Refusal}
@@ -405,11 +408,11 @@ pub not_behind : {H : Type 0} {m : HostModel H} {first filling : Filling} {old_c
     → slice_get list index ≡ Some body)
     → (ForSome last (λ before. before < body.id) → ⊥) → (why : Refusal) (name : PageName) → why ≡ refusal.Damaged name
     → name ≡ page_of_body sorted_file index
-    → IsBroken m (λ list. HoldsByIds count list (seen m old_cache old sorted_file)) why
+    → IsBroken m IsPagedFile (λ list. HoldsByIds count list (seen m old_cache old sorted_file)) why
 not_behind {index = index} {last = last} body adding there low why name shown page = record {
   page = name;
   shown = shown;
-  file = λ same. let here = ap (λ (n : PageName). n.file) page in absurd (omega (arith, same, here));
+  file = subst IsPagedFile (sym (ap (λ (n : PageName). n.file) page)) sorted_paged;
   cause = λ tells list holds.
       low (behind_last list index body last (there tells list holds) holds.rises (adding.listed tells list holds));
 }
@@ -418,11 +421,11 @@ not_behind {index = index} {last = last} body adding there low why name shown pa
 pub no_body : {H : Type 0} {m : HostModel H} {first filling : Filling} {old_cache cache : CacheValue} {count index : ℕ}
     {last : Option ℕ} {old now : H} → Adding m first old_cache old count index last filling cache now → index < count
     → (name : PageName) → IsNoBody m cache now sorted_file index name
-    → IsBroken m (λ list. HoldsByIds count list (seen m old_cache old sorted_file)) (refusal.Damaged name)
+    → IsBroken m IsPagedFile (λ list. HoldsByIds count list (seen m old_cache old sorted_file)) (refusal.Damaged name)
 no_body adding below name none = record {
   page = name;
   shown = refl;
-  file = λ same. let here = ap (λ (n : PageName). n.file) none.page in absurd (omega (arith, same, here));
+  file = subst IsPagedFile (sym (ap (λ (n : PageName). n.file) none.page)) sorted_paged;
   cause = λ tells list holds.
       let few = none.listed tells list (subst (λ (file : List ℕ). HoldsBodies file list) (sym (adding.view tells)) holds.holds) in
       absurd (omega (arith, few, holds.count_is));
@@ -502,6 +505,13 @@ pub planned_of : (journal : Counters) {ticks file count time : ℕ} {plan : Plan
 planned_of journal is number done many when =
     is ∙ (λ i. record { file = (number ∙ ap snap_of done) i; count = many i; time = when i })
 
+-- a snapshot that is finished, by what its file and its count are read from
+pub finished_at : (files : ℕ → List ℕ) {file number count many : ℕ} → file ≡ number → count ≡ many
+    → IsFinishedSnapshot many (files number) → IsFinishedSnapshot count (files file)
+finished_at files {file = file} {many = many} same many_is finished =
+    subst (λ (n : ℕ). IsFinishedSnapshot n (files file)) (sym many_is)
+    (subst (λ (n : ℕ). IsFinishedSnapshot many (files n)) (sym same) finished)
+
 -- the slot of the last tick holds these bodies
 abbrev pub SlotHolds : {H : Type 0} → HostModel H → Counters → H → List Body → Type 0
 SlotHolds m journal host bodies =
@@ -510,8 +520,8 @@ SlotHolds m journal host bodies =
 slot_apart : (slot k : ℕ) → slot ≡ slot_of k → slot ≢ sorted_file
 slot_apart slot k is same = absurd (omega (arith, is, same))
 
-slot_no_journal : (slot k : ℕ) → slot ≡ slot_of k → slot ≢ journal_file
-slot_no_journal slot k is same = absurd (omega (arith, is, same))
+slot_paged : (slot k : ℕ) → slot ≡ slot_of k → IsPagedFile slot
+slot_paged slot k is = (omega (arith, is), omega (arith, is))
 
 -- what a settled cache shows of the slot is the host's
 slot_seen : {H : Type 0} {m : HostModel H} {cache : CacheValue} {now : H} (slot k : ℕ) → slot ≡ slot_of k → IsSettled m cache now
@@ -551,13 +561,13 @@ ordered {m = m} journal {cache = cache} {now = now} {slot = slot} here many sett
 pub unordered : {H : Type 0} {m : HostModel H} (journal : Counters) {cache : CacheValue} {old : H} {slot count : ℕ}
     → slot ≡ slot_of journal.progress.ticks → count ≡ journal.count → IsSettled m cache old → (name : PageName)
     → IsUnsorted m by_id cache old slot sorted_file count name
-    → IsBroken m (SlotHolds m journal old) (refusal.Damaged name)
+    → IsBroken m IsPagedFile (SlotHolds m journal old) (refusal.Damaged name)
 unordered {m = m} journal {slot = slot} here many settled name none = record {
   page = name;
   shown = refl;
   file = elim none.file [
-    | inl one ↦ λ same. slot_no_journal slot journal.progress.ticks here (sym one ∙ same)
-    | inr other ↦ λ same. absurd (omega (arith, other, same))
+    | inl one ↦ subst IsPagedFile (sym one) (slot_paged slot journal.progress.ticks here)
+    | inr other ↦ subst IsPagedFile (sym other) sorted_paged
   ];
   cause = λ tells bodies keys.
       let list = sorted_by by_key bodies in
@@ -652,8 +662,8 @@ closed_snapshot {m = m} journal {bodies = bodies} {new = new} tells being finish
 -- Where the sorted file was said to hold none by ids, the slot holds none.
 pub broken_slot : {H : Type 0} {m : HostModel H} {journal : Counters} {old now : H} {cache : CacheValue} {count : ℕ}
     {filling : Filling} → count ≡ journal.count → Begun m journal old filling cache now → (why : Refusal)
-    → NeedsNoCause why ⊎ IsBroken m (λ list. HoldsByIds count list (seen m cache now sorted_file)) why
-    → NeedsNoCause why ⊎ IsBroken m (SlotHolds m journal old) why
+    → NeedsNoCause why ⊎ IsBroken m IsPagedFile (λ list. HoldsByIds count list (seen m cache now sorted_file)) why
+    → NeedsNoCause why ⊎ IsBroken m IsPagedFile (SlotHolds m journal old) why
 broken_slot {m = m} {now = now} {cache = cache} many start why cause =
     elim cause [
       | inl none ↦ inl none

@@ -5,7 +5,6 @@ use Rattle.nb_model.specs.declared.body.Body.{Body}
 use Rattle.nb_model.specs.declared.params.Params.{Params}
 use Rattle.nb_model.specs.Limits.{gm_limit}
 use Rattle.nb_model.specs.Octree.{total_mass}
-use Rattle.nb_host.specs.declared.host.Channel.TheVariants as channels
 use Rattle.nb_host.specs.Image.{Image}
 use Rattle.nb_format.specs.Snapshot.{IsSnapshot}
 use Rattle.nb_journal.specs.Form.{IsCleanJournal}
@@ -14,11 +13,9 @@ use Rattle.nb_record.specs.Order.{by_key, sorted_by, HoldsBodies}
 use Rattle.nb_tick.specs.Slots.{slot_of}
 use Rattle.nb_engine.specs.declared.refusal.Refusal.{Refusal}
 use Rattle.nb_engine.specs.declared.refusal.Refusal.TheVariants as refusal
-use Rattle.nb_engine.specs.Acknowledged.{IsToldUpTo}
 use Rattle.nb_engine.specs.Files.{init_file}
 use Rattle.nb_engine.specs.Histories.{IsHistory}
-use Rattle.nb_engine.specs.Represents.{RepresentsHistory}
-use Rattle.nb_engine.specs.Start.{Start, HasStart, start_refusal, started}
+use Rattle.nb_engine.specs.Start.{Start, HasStart, start_refusal, started, IsBegun}
 
 -- ---- the run
 
@@ -57,16 +54,12 @@ started_history files start has allowed = record {
 -- What a folder has to hold to represent it: its journal, its snapshot, and the bodies in the first slot.
 pub started_represents : (start : Start) (image : Image) → IsCleanJournal (started start).log (image.file journal_file)
     → IsSnapshot (image.file init_file) start.bodies start.time
-    → HoldsBodies (image.file (slot_of 0)) (sorted_by by_key start.bodies) → IsToldUpTo 0 (image.said channels.Out)
-    → RepresentsHistory (started start) image
-started_represents start image journal snapshot slot told = record {
-  files = record {
-    journal = journal;
-    start = snapshot;
-    slot = slot;
-    kicks = λ some. absurd (some refl);
-    finished = λ j due below. absurd (omega arith);
-    right = λ j some within opened. absurd (omega arith);
-  };
-  told = told;
+    → HoldsBodies (image.file (slot_of 0)) (sorted_by by_key start.bodies) → IsBegun start image
+started_represents start image journal snapshot slot = record {
+  journal = journal;
+  start = snapshot;
+  slot = slot;
+  kicks = λ some. absurd (some refl);
+  finished = λ j due below. absurd (omega arith);
+  right = λ j some within opened. absurd (omega arith);
 }

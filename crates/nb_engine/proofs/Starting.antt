@@ -4,8 +4,6 @@ use Rattle.std.specs.Prelude.{◌≢◌, Contains}
 use Rattle.std.specs.List.{AllByRecursion}
 use Rattle.std.proofs.lemmas.List.Elements.{All-contains, All-from_recursion, Contains-append_left, Contains-append_cases}
 use Rattle.nb_model.specs.declared.body.Body.{Body}
-use Rattle.nb_host.specs.declared.host.Channel.{Channel}
-use Rattle.nb_host.specs.declared.host.Channel.TheVariants as channels
 use Rattle.nb_host.specs.declared.host.HostError.{HostError}
 use Rattle.nb_host.specs.declared.host.HostError.TheVariants as host
 use Rattle.nb_host.specs.Crashes.{AgreesOutside, ImagesFollow, Stays}
@@ -25,14 +23,12 @@ use Rattle.nb_tick.specs.Slots.{slot_of, drifted_file}
 use Rattle.nb_engine.specs.declared.refusal.Refusal.{Refusal}
 use Rattle.nb_engine.specs.declared.refusal.Refusal.TheVariants as refusal
 use Rattle.nb_engine.specs.declared.run_start.Plan.{Plan}
-use Rattle.nb_engine.specs.Acknowledged.{IsToldUpTo}
 use Rattle.nb_engine.specs.Files.{init_file}
 use Rattle.nb_engine.specs.Frame.{RanSession}
 use Rattle.nb_engine.specs.Reading.{plan_of, IsPlanned}
 use Rattle.nb_engine.specs.Refusal.{of_host}
-use Rattle.nb_engine.specs.Represents.{RepresentsHistory}
 use Rattle.nb_engine.specs.Snapshots.{IsBroken}
-use Rattle.nb_engine.specs.Start.{Start, IsStartReady, started, StartLeads}
+use Rattle.nb_engine.specs.Start.{Start, IsStartReady, started, IsBegun, StartLeads, IsReadFile}
 use Rattle.nb_engine.proofs.CachedCalls.{well, well_isnt}
 use Rattle.nb_engine.proofs.EachImages.{durable_stays, leads_from_durable}
 use Rattle.nb_engine.proofs.Frames.{session_ran, session_syncing, session_cached, session_then, session_by}
@@ -143,10 +139,7 @@ lays_after {files = files} P begun first second =
 
 -- no run is started still, or it is the one that can be
 abbrev pub IsStill : Image → Image → Type 0
-IsStill old image =
-    IsUnstarted image
-    ⊎ ((start : Start) × IsStartReady old.file start
-    × (IsToldUpTo 0 (old.said channels.Out) → RepresentsHistory (started start) image))
+IsStill old image = IsUnstarted image ⊎ ((start : Start) × IsStartReady old.file start × IsBegun start image)
 
 -- calls that only read
 pub start_stays : {H : Type 0} {m : HostModel H} {old new : H} → Leads m Stays old new
@@ -177,16 +170,14 @@ start_leads {m = m} {files = files} P durable within ready still leads =
 pub committed_still : (start : Start) {log : Log} {old before image : Image} → log ≡ (started start).log
     → IsStartReady old.file start → AgreesOutside start_files old before
     → HoldsBodies (before.file (slot_of 0)) (sorted_by by_key start.bodies) → IsCommitted log before image
-    → IsToldUpTo 0 (old.said channels.Out) → RepresentsHistory (started start) image
-committed_still start {log} {old} {before} {image} is ready since laid committed told =
+    → IsBegun start image
+committed_still start {log} {old} {before} {image} is ready since laid committed =
     let snapshot = since.others init_file init_apart in
     let later = committed.others.others init_file init_spared in
     let slot = committed.others.others (slot_of 0) slot_spared in
-    let said = ap (λ (s : Channel → List ℕ). s channels.Out) (committed.others.said ∙ since.said) in
     started_represents start image (subst (λ (l : Log). IsCleanJournal l (image.file journal_file)) is committed.journal)
     (subst (λ (file : List ℕ). IsSnapshot file start.bodies start.time) (sym (later ∙ snapshot)) ready.starts.snapshot)
-    (subst (λ (file : List ℕ). HoldsBodies file (sorted_by by_key start.bodies)) (sym slot) laid)
-    (subst (IsToldUpTo 0) (sym said) told) where
+    (subst (λ (file : List ℕ). HoldsBodies file (sorted_by by_key start.bodies)) (sym slot) laid) where
       init_apart : Contains start_files init_file → ⊥
       init_apart has = none_of start_files init_file (omega arith) has
 
@@ -332,7 +323,7 @@ prepared_init made tells =
 -- So that it isn't is no cause of a refusal.
 pub never_broken : {H : Type 0} {m : HostModel H} {plan : Plan} {old planned prepared : H} {why : Refusal}
     → IsMade m plan old planned prepared
-    → IsBroken m (λ bodies. IsPlanned plan bodies ((m.contents prepared).file init_file)) why → IsTrue m.tells → ⊥
+    → IsBroken m IsReadFile (λ bodies. IsPlanned plan bodies ((m.contents prepared).file init_file)) why → IsTrue m.tells → ⊥
 never_broken {m = m} {old = old} {prepared = prepared} made broken tells =
     let can = made.set_out.ready tells in
     broken.cause tells can.0.bodies
@@ -348,12 +339,11 @@ HoldsPlanned m plan prepared laid = IsTrue m.tells → (bodies : List Body)
 gate_still : {H : Type 0} {m : HostModel H} {plan : Plan} {old planned prepared laid : H} {image : Image}
     → IsLaid m plan old planned prepared laid → HoldsPlanned m plan prepared laid → (tells : IsTrue m.tells)
     → (start : Start) → IsStartReady (m.contents old).file start → plan ≡ plan_of start
-    → IsCommitted (log_of plan) (m.contents laid) image → IsToldUpTo 0 ((m.contents old).said channels.Out)
-    → RepresentsHistory (started start) image
-gate_still {m = m} {old = old} {prepared = prepared} laid holds tells start ready is committed told =
+    → IsCommitted (log_of plan) (m.contents laid) image → IsBegun start image
+gate_still {m = m} {old = old} {prepared = prepared} laid holds tells start ready is committed =
     committed_still start (ap log_of is) ready ((laid_lays laid).contents tells).others
     (holds tells start.bodies
-    (planned_there start (m.contents old) (m.contents prepared) is ready (prepared_init laid.made tells))) committed told
+    (planned_there start (m.contents old) (m.contents prepared) is ready (prepared_init laid.made tells))) committed
 
 -- The gate was opened, or it was tried.
 pub gate_leads : {H : Type 0} {m : HostModel H} {plan : Plan} {old planned prepared laid new : H}
@@ -368,7 +358,7 @@ gate_leads {m = m} {plan = plan} {laid = middle} laid holds opens images =
       | inl unstarted ↦ inl unstarted
       | inr committed ↦
           let can = laid.made.set_out.ready tells in
-          inr (can.0, can.1, λ told. gate_still laid holds tells can.0 can.1 can.2 committed told)
+          inr (can.0, can.1, gate_still laid holds tells can.0 can.1 can.2 committed)
     ]) (lays_started (laid_lays laid) agrees images)
 
 -- It was opened, and the folder represents the run.
@@ -377,14 +367,14 @@ pub gate_opened : {H : Type 0} {m : HostModel H} {plan : Plan} {old planned prep
     → Leads m (FileBecomes journal_file P) laid new
     → (IsTrue m.tells → IsCleanJournal (log_of plan) ((m.contents new).file journal_file)) → IsTrue m.tells
     → (start : Start) × IsStartReady (m.contents old).file start × (plan ≡ plan_of start)
-    × (IsToldUpTo 0 ((m.contents old).said channels.Out) → RepresentsHistory (started start) (m.contents new))
+    × IsBegun start (m.contents new)
 gate_opened laid holds opens journal tells =
     let can = laid.made.set_out.ready tells in (
       can.0,
       can.1,
       can.2,
-      λ told. gate_still laid holds tells can.0 can.1 can.2
-          (record { journal = journal tells; others = becomes_agrees (opens.contents tells) }) told,
+      gate_still laid holds tells can.0 can.1 can.2
+          (record { journal = journal tells; others = becomes_agrees (opens.contents tells) }),
     )
 
 -- ---- what they owe to the counts
@@ -400,7 +390,8 @@ pub session_well : {H T U E : Type 0} {m : HostModel H} {fault : E} {syncs : ℕ
     → RanSyncing m syncs fault second middle new two → IsOk two → Leads m by old new → RanSession m by old new well
 session_well ok before ran fine leads =
     session_then ok before
-    (session_syncing ran (λ faulted. absurd (well_isnt refusal.Device faulted)) (λ error. absurd (ok_is_no_error fine error)))
+    (session_syncing ran (λ faulted. absurd (well_isnt refusal.Device faulted)) (λ error. absurd (ok_is_no_error fine error))
+    (λ _. fine))
     leads
 
 -- and calls through a cache

@@ -91,7 +91,7 @@ module _ {H : Type 0} (m : HostModel H) (journal next : Counters) (h0 h1 h2 : H)
     played_here = ticks h at up
 
     due_here : TellsDue (ticked h) due
-    due_here = tells_due-ticked h played_here.at.represents.files.journal.journal.lawful played_here.at.answers tells_due
+    due_here = tells_due-ticked h played_here.at.represents.journal.journal.lawful played_here.at.answers tells_due
 
     pub step_images : EachImage m (GoesOn 1 h (m.contents h0)) h0 h1
         → ((h : History) → TellsDue h due → IsAt m h next h1 → EachImage m (GoesOn 0 h (m.contents h1)) h1 h2)

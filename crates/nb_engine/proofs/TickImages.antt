@@ -26,25 +26,20 @@ use Rattle.nb_tick.specs.Slots.{slot_of, cell_file}
 use Rattle.nb_tick.specs.State.{HoldsState, IsCellIndexOf}
 use Rattle.nb_engine.specs.declared.refusal.Refusal.{Refusal}
 use Rattle.nb_engine.specs.declared.refusal.Refusal.TheVariants as refusal
-use Rattle.nb_engine.specs.Acknowledged.{IsToldUpTo}
-use Rattle.nb_engine.specs.Files.{init_file}
+use Rattle.nb_engine.specs.Files.{init_file, IsPagedFile}
 use Rattle.nb_engine.specs.Frame.{EachImage, IsApart, KeepsApart, RanSession}
 use Rattle.nb_engine.specs.Gates.{CanTick}
 use Rattle.nb_engine.specs.Histories.{Run, state_of, time_of, History, run_of, ticks_of, IsHistory, next_tick, ticked}
 use Rattle.nb_engine.specs.Refusal.{NeedsNoCause}
-use Rattle.nb_engine.specs.Represents.{snap_of, IsComplete, RepresentsHistory}
-use Rattle.nb_engine.specs.Steps.{line_of, lines_behind, IsAt, IsSettled, HasState, IsSpoilt, fill_files, IsFilled, HasNext, GoesOn, HasPlayed, IsUpToDate}
+use Rattle.nb_engine.specs.Represents.{snap_of, IsOpened, IsComplete, RepresentsRun}
+use Rattle.nb_engine.specs.Steps.{line_of, lines_behind, IsAt, IsSettled, HasState, IsSpoilt, fill_files, IsFilled, HasNext, IsPassed, GoesOn, HasPlayed, IsUpToDate}
 use Rattle.nb_engine.proofs.EachImages.{from_durable, each_then, durable_said}
 use Rattle.nb_engine.proofs.Filling.{Handed, apart_filled}
 use Rattle.nb_engine.proofs.Frames.{session_syncing, session_spoke, session_then, session_as, session_ended}
 use Rattle.nb_engine.proofs.LongerLogs.{run-ticked, ticks-ticked}
 use Rattle.nb_engine.proofs.Paths.{time-now}
+use Rattle.nb_engine.proofs.Played.{said_first, passed_fewer}
 use Rattle.nb_engine.proofs.Representing.{spared, represents_kept, represents_ticked}
-
--- what is known of the lines of ticks
-abbrev pub LineTellsOne : Type 0
-LineTellsOne = (k time gone n : ℕ) (said : List ℕ) → k < 2 ^ 64 → time < 2 ^ 64 → gone < 2 ^ 64
-    → IsToldUpTo k said → IsToldUpTo k (said ++ take n (tick_line k time gone))
 
 lines_one : (run : Run) (k : ℕ) → lines_behind run k 1 ≡ line_of run (suc k)
 lines_one run k = let same : k + 0 ≡ k = omega arith in ap (λ (n : ℕ). line_of run (suc n)) same
@@ -63,15 +58,19 @@ slot_apart k = apart_filled k (slot_of k) (omega arith) (inl (omega arith))
 snap_apart : (k j : ℕ) → j ≤ k → Contains (fill_files k) (snap_of j) → ⊥
 snap_apart k j within = apart_filled k (snap_of j) (omega arith) (inr (omega arith, omega arith))
 
+snap_passed : (k j : ℕ) → IsPassed k 1 j → Contains (fill_files k) (snap_of j) → ⊥
+snap_passed k j (inl before) = apart_filled k (snap_of j) (omega arith) (inr (omega arith, omega (arith, before)))
+snap_passed k j (inr behind) = apart_filled k (snap_of j) (omega arith) (inr (omega arith, omega (arith, behind)))
+
 -- ---- without the entry
 
 -- the image holds what the folder did, but for the journal behind its entries and what a tick fills
-pub none_done : (most : ℕ) (h : History) (before image : Image) → RepresentsHistory h before
+pub none_done : (h : History) (before image : Image) → RepresentsRun h before
     → IsCleanJournal h.log (image.file journal_file)
     → ((number : ℕ) → (Contains (fill_files (ticks_of h)) number → ⊥) → number ≢ journal_file
     → image.file number ≡ before.file number)
-    → image.said ≡ before.said → GoesOn most h before image
-none_done most h before image stands clean same said =
+    → image.said ≡ before.said → GoesOn 1 h before image
+none_done h before image stands clean same said =
     let k = ticks_of h in
     let out = ap (λ (s : Channel → List ℕ). s channels.Out) said in
     let snaps : (j : ℕ) → j ≤ k → image.file (snap_of j) ≡ before.file (snap_of j) = λ j within.
@@ -79,22 +78,21 @@ none_done most h before image stands clean same said =
     record {
       done = 0;
       few = omega arith;
-      represents = record {
-        files =
-            spared h.log (run_of h) k before image stands.files clean (same init_file (init_apart k) (omega arith))
-            (same (slot_of k) (slot_apart k) (omega arith)) (λ j _ within. snaps j within);
-        told = subst (IsToldUpTo k) (sym out) stands.told;
-      };
+      represents =
+          spared h.log (run_of h) k before image stands clean (same init_file (init_apart k) (omega arith))
+          (same (slot_of k) (slot_apart k) (omega arith)) (λ j _ within. snaps j within);
       kept = λ j within _. snaps j within;
-      said = (0, omega arith, out ∙ sym (append-nil (before.said channels.Out)));
+      others = λ j passed. same (snap_of j) (snap_passed k j (elim passed [ inl next ↦ next | inr last ↦ last ])) (omega arith);
+      said = out;
+      first = λ opened. out ∙ sym (append-nil (before.said channels.Out));
     }
 
 -- so it does before the entry
-pub filled_done : (h : History) (before image : Image) → RepresentsHistory h before
+pub filled_done : (h : History) (before image : Image) → RepresentsRun h before
     → AgreesOutside (fill_files (ticks_of h)) before image → GoesOn 1 h before image
 filled_done h before image stands agrees =
-    none_done 1 h before image stands
-    (subst (IsCleanJournal h.log) (sym (agrees.others journal_file (journal_apart (ticks_of h)))) stands.files.journal)
+    none_done h before image stands
+    (subst (IsCleanJournal h.log) (sym (agrees.others journal_file (journal_apart (ticks_of h)))) stands.journal)
     (λ number apart _. agrees.others number apart) agrees.said
 
 -- ---- with the entry
@@ -102,8 +100,9 @@ filled_done h before image stands agrees =
 -- The image has the next tick, and nothing more was said.
 pub record HasTicked (h : History) (before image : Image) : Type 0 where
   pub is : IsHistory (ticked h)
-  pub represents : RepresentsHistory (ticked h) image
-  pub kept : (j : ℕ) → j ≤ ticks_of h → image.file (snap_of j) ≡ before.file (snap_of j)
+  pub represents : RepresentsRun (ticked h) image
+  pub kept : (j : ℕ) → (j ≤ ticks_of h) ⊎ IsPassed (ticks_of h) 1 j → image.file (snap_of j) ≡ before.file (snap_of j)
+  pub shut : IsOpened (image.file (snap_of (suc (ticks_of h)))) → ⊥
   pub said : image.said channels.Out ≡ before.said channels.Out
 
 -- what stands before the gate of the next tick
@@ -121,83 +120,83 @@ other_than_journal : (number : ℕ) → number ≢ journal_file → Contains (jo
 other_than_journal number apart (zero, below, at) = apart (sym at)
 other_than_journal number apart (suc n, below, at) = omega (arith, below)
 
-pub has_ticked : (h : History) (before filled image : Image) → IsHistory h → RepresentsHistory h before
+pub has_ticked : (h : History) (before filled image : Image) → IsHistory h → RepresentsRun h before
     → AgreesOutside (fill_files (ticks_of h)) before filled → CanTick h filled → AgreesOutside (journal_file ∷ []) filled image
     → IsCleanJournal (ticked h).log (image.file journal_file) → HasTicked h before image
 has_ticked h before filled image is stands agrees can opened clean =
     let k = ticks_of h in
     let kept = represents_kept h before filled stands (agrees.others journal_file (journal_apart k))
     (agrees.others init_file (init_apart k)) (agrees.others (slot_of k) (slot_apart k))
-    (λ j _ within. agrees.others (snap_of j) (snap_apart k j within)) (ap (λ (s : Channel → List ℕ). s channels.Out) agrees.said) in
+    (λ j _ within. agrees.others (snap_of j) (snap_apart k j within)) in
     let both = represents_ticked h filled image is kept can opened clean in
     record {
       is = both.0;
       represents = both.1;
-      kept = λ j within.
+      kept = λ j spared.
           opened.others (snap_of j) (other_than_journal (snap_of j) (omega arith))
-          ∙ agrees.others (snap_of j) (snap_apart k j within);
+          ∙ agrees.others (snap_of j) (elim spared [
+            | inl within ↦ snap_apart k j within
+            | inr passed ↦ snap_passed k j passed
+          ]);
+      shut = λ is_open. can.shut (subst IsOpened
+          (opened.others (snap_of (suc k)) (other_than_journal (snap_of (suc k)) (omega arith))) is_open);
       said = ap (λ (s : Channel → List ℕ). s channels.Out) (opened.said ∙ agrees.said);
     }
+
+-- with one tick done of one
+passed_one : (k j : ℕ) → IsPassed k 2 j ⊎ IsPassed k 1 j → IsPassed k 1 j
+passed_one k j (inl next) = passed_fewer k 1 2 j (omega arith) next
+passed_one k j (inr last) = last
+
+-- the snapshot of that tick isn't opened
+not_opened : (h : History) (image : Image) → (IsOpened (image.file (snap_of (suc (ticks_of h)))) → ⊥)
+    → IsOpened (image.file (snap_of (ticks_of h + 1))) → ⊥
+not_opened h image shut opened =
+    let same : ticks_of h + 1 ≡ suc (ticks_of h) = omega arith in
+    shut (subst (λ (k : ℕ). IsOpened (image.file (snap_of k))) same opened)
 
 pub ticked_done : (h : History) (before image : Image) → HasTicked h before image → GoesOn 1 h before image
 ticked_done h before image has = record {
   done = 1;
   few = omega arith;
   represents = has.represents;
-  kept = λ j within _. has.kept j within;
-  said = (0, omega arith, has.said ∙ sym (append-nil (before.said channels.Out)));
+  kept = λ j within _. has.kept j (inl within);
+  others = λ j passed. has.kept j (inr (passed_one (ticks_of h) j passed));
+  said =
+      said_first (run_of h) (ticks_of h) 0 (line_of (run_of h) (suc (ticks_of h))) (before.said channels.Out)
+      (image.said channels.Out) refl (omega arith) (has.said ∙ sym (append-nil (before.said channels.Out)));
+  first = λ opened. absurd (not_opened h image has.shut opened);
 }
 
 -- ---- the line
 
--- the numbers of the line of the next tick fit
-pub record LineFits (h : History) : Type 0 where
-  pub tick : suc (ticks_of h) < 2 ^ 64
-  pub time : time_of (run_of h) (suc (ticks_of h)) < 2 ^ 64
-  pub gone : escaped_count (state_of (run_of h) (suc (ticks_of h))) < 2 ^ 64
-
 -- behind a say of the line, perhaps of its first bytes alone
-pub line_represents : LineTellsOne → (h : History) (now image : Image) (line : List ℕ) → LineFits h
-    → line ≡ line_of (run_of h) (suc (ticks_of h)) → RepresentsHistory (ticked h) now → SaysPart channels.Out line now image
-    → RepresentsHistory (ticked h) image
-line_represents tells h now image line fits is stands part =
-    let log = (ticked h).log in
-    let run = run_of (ticked h) in
-    let done = ticks_of (ticked h) in
-    let k = suc (ticks_of h) in
-    let n = part.0 in
-    let says = part.2 in
-    let out = now.said channels.Out in
-    let same : (number : ℕ) → image.file number ≡ now.file number = λ number. ap (λ (f : ℕ → List ℕ). f number) says.files in
-    let told = subst (λ (j : ℕ). IsToldUpTo j out) (ticks-ticked h) stands.told in
-    let more = tells k (time_of (run_of h) k) (escaped_count (state_of (run_of h) k)) n out fits.tick fits.time fits.gone told in
-    let said : image.said channels.Out ≡ out ++ take n (line_of (run_of h) k) = says.said ∙ ap (λ (l : List ℕ). out ++ take n l) is in
-    record {
-      files =
-          spared log run done now image stands.files (subst (IsCleanJournal log) (sym (same journal_file)) stands.files.journal)
-          (same init_file) (same (slot_of done)) (λ j _ _. same (snap_of j));
-      told =
-          subst (λ (j : ℕ). IsToldUpTo j (image.said channels.Out)) (sym (ticks-ticked h)) (subst (IsToldUpTo k) (sym said) more);
-    }
+pub line_represents : (h : History) (now image : Image) (line : List ℕ) → RepresentsRun h now → SaysPart channels.Out line now image
+    → RepresentsRun h image
+line_represents h now image line stands part =
+    let done = ticks_of h in
+    let same : (number : ℕ) → image.file number ≡ now.file number = λ number. ap (λ (f : ℕ → List ℕ). f number) part.2.files in
+    spared h.log (run_of h) done now image stands (subst (IsCleanJournal h.log) (sym (same journal_file)) stands.journal)
+    (same init_file) (same (slot_of done)) (λ j _ _. same (snap_of j))
 
-pub line_done : LineTellsOne → (h : History) (before now image : Image) (line : List ℕ) → LineFits h
-    → line ≡ line_of (run_of h) (suc (ticks_of h)) → HasTicked h before now → SaysPart channels.Out line now image
+pub line_done : (h : History) (before now image : Image) (line : List ℕ) → line ≡ line_of (run_of h) (suc (ticks_of h)) → HasTicked h before now → SaysPart channels.Out line now image
     → GoesOn 1 h before image
-line_done tells h before now image line fits is has part =
+line_done h before now image line is has part =
     let n = part.0 in
     let says = part.2 in
-    let all : line ≡ lines_behind (run_of h) (ticks_of h) 1 = is ∙ sym (lines_one (run_of h) (ticks_of h)) in
+    let files : (j : ℕ) → image.file (snap_of j) ≡ now.file (snap_of j) = λ j.
+    ap (λ (f : ℕ → List ℕ). f (snap_of j)) says.files in
     record {
       done = 1;
       few = omega arith;
-      represents = line_represents tells h now image line fits is has.represents part;
-      kept = λ j within _. ap (λ (f : ℕ → List ℕ). f (snap_of j)) says.files ∙ has.kept j within;
-      said = (
-        n,
-        subst (λ (l : List ℕ). n ≤ length l) all part.1,
-        says.said ∙ ap (λ (l : List ℕ). l ++ take n line) has.said
-            ∙ ap (λ (l : List ℕ). before.said channels.Out ++ take n l) all,
-      );
+      represents = line_represents (ticked h) now image line has.represents part;
+      kept = λ j within _. files j ∙ has.kept j (inl within);
+      others = λ j passed. files j ∙ has.kept j (inr (passed_one (ticks_of h) j passed));
+      said =
+          said_first (run_of h) (ticks_of h) n line (before.said channels.Out) (image.said channels.Out) is part.1
+          (says.said ∙ ap (λ (l : List ℕ). l ++ take n line) has.said);
+      first = λ opened.
+          absurd (not_opened h image (λ is_open. has.shut (subst IsOpened (files (suc (ticks_of h))) is_open)) opened);
     }
 
 -- ---- the calls of a tick
@@ -205,7 +204,7 @@ line_done tells h before now image line fits is has part =
 -- the other slot was filled, and so many bodies are out, where the folder represented a history
 abbrev pub Fills : {H : Type 0} → HostModel H → Counters → H → H → ℕ → Type 0
 Fills m journal old new gone = IsTrue m.tells → (h : History) → Answers h.log journal → IsHistory h
-    → RepresentsHistory h (m.contents old)
+    → RepresentsRun h (m.contents old)
     → IsFilled h (m.contents new) × (gone ≡ escaped_count (state_of (run_of h) (suc (ticks_of h))))
 
 -- what the adding of an entry may leave in each image, and what it leaves at its end
@@ -254,7 +253,7 @@ module _ {H : Type 0} (m : HostModel H) (journal : Counters) (h0 h1 : H) (leads 
       ready : IsCleanNow m h.log h1
       ready =
           left_stays m (others_spare (journal_apart (ticks_of h)) fills)
-          (ready_then m (λ _. at.represents.files.journal) at.durable)
+          (ready_then m (λ _. at.represents.journal) at.durable)
 
       -- what an image holds that follows from a durable folder
       abbrev Follows : Image → Image → Type 0
@@ -271,7 +270,7 @@ module _ {H : Type 0} (m : HostModel H) (journal : Counters) (h0 h1 : H) (leads 
           let agrees = subst (λ (i : Image). AgreesOutside (fill_files (ticks_of h)) i between) same one in
           elim two.either [
             | inl clean ↦
-                none_done 1 h before image at.represents clean
+                none_done h before image at.represents clean
                 (λ number apart other.
                 two.others.others number (other_than_journal number other) ∙ agrees.others number apart)
                 (two.others.said ∙ agrees.said)
@@ -303,26 +302,19 @@ module _ {H : Type 0} (m : HostModel H) (journal : Counters) (h0 h1 : H) (leads 
             ∙ ap (λ (run : Run). time_of run (ticks_of (ticked h))) (run-ticked h)
             ∙ ap (λ (k : ℕ). time_of (run_of h) k) (ticks-ticked h)
 
-        module _ (law : LineTellsOne) (time : ℕ) (same_time : time ≡ next.progress.time) (line : List ℕ) (spelled : line ≡ tick_line (ticks + 1) time gone) (few_ticks : ticks + 1 < 2 ^ 64) (few_time : time < 2 ^ 64) (few_gone : gone < 2 ^ 64) where
+        module _ (time : ℕ) (same_time : time ≡ next.progress.time) (line : List ℕ) (spelled : line ≡ tick_line (ticks + 1) time gone) where
           line_is : line ≡ line_of (run_of h) (suc (ticks_of h))
           line_is =
               let k = suc (ticks_of h) in
               spelled ∙ ap (λ (n : ℕ). tick_line n time gone) number_is ∙ ap (λ (n : ℕ). tick_line k n gone) (same_time ∙ time_is)
               ∙ ap (λ (n : ℕ). tick_line k (time_of (run_of h) k) n) there.1
 
-          fits : LineFits h
-          fits = record {
-            tick = subst (λ (n : ℕ). n < 2 ^ 64) number_is few_ticks;
-            time = subst (λ (n : ℕ). n < 2 ^ 64) (same_time ∙ time_is) few_time;
-            gone = subst (λ (n : ℕ). n < 2 ^ 64) there.1 few_gone;
-          }
-
           -- where the line may have been begun
           pub line_images : (h3 : H) → Leads m (SaysPart channels.Out line) h2 h3 → EachImage m (GoesOn 1 h before) h0 h3
           line_images h3 says =
               each_then m (GoesOn 1 h before) (GoesOn 1 h before) (GoesOn 1 h before) (entry_images h2 appends)
               (from_durable m (SaysPart channels.Out line) (GoesOn 1 h before) durable says.images
-              (λ honest image part. line_done law h before (m.contents h2) image line fits line_is now part))
+              (λ honest image part. line_done h before (m.contents h2) image line line_is now part))
               (λ image goes. goes) (λ image goes. goes)
 
           -- and where it was said
@@ -345,10 +337,10 @@ module _ {H : Type 0} (m : HostModel H) (journal : Counters) (h0 h1 : H) (leads 
                   is = now.is;
                   answers = answers_next;
                   represents =
-                      line_represents law h (m.contents h2) (m.contents h3) line fits line_is now.represents
-                      (says.contents at.tells);
+                      line_represents (ticked h) (m.contents h2) (m.contents h3) line now.represents (says.contents at.tells);
                 };
-                kept = λ j within _. file (snap_of j) ∙ now.kept j within;
+                kept = λ j within _. file (snap_of j) ∙ now.kept j (inl within);
+                others = λ j passed. file (snap_of j) ∙ now.kept j (inr passed);
                 said =
                     whole.said ∙ ap (λ (l : List ℕ). l ++ line) now.said
                     ∙ ap (λ (l : List ℕ). before.said channels.Out ++ l) (line_is ∙ sym (lines_one (run_of h) (ticks_of h)));
@@ -374,15 +366,15 @@ state_after journal next gone ticks old new ticks_is next_is same has =
 
 -- fewer bodies out than the journal tells
 pub fewer_spoilt : {H : Type 0} (m : HostModel H) (journal : Counters) (h0 h1 : H) (gone told : ℕ) (page : PageName)
-    → page.file ≢ journal_file → told ≡ journal.progress.gone → gone < told
+    → IsPagedFile page.file → told ≡ journal.progress.gone → gone < told
     → (IsTrue m.tells → (bodies : List Body) → HasState journal bodies (m.contents h0).file
     → HasNext journal gone (m.contents h1).file)
     → NeedsNoCause (refusal.Damaged page) ⊎ IsSpoilt m journal h0 (refusal.Damaged page)
-fewer_spoilt m journal h0 h1 gone told page apart told_is fewer next =
+fewer_spoilt m journal h0 h1 gone told page paged told_is fewer next =
     inr (record {
       page = page;
       shown = refl;
-      file = apart;
+      file = paged;
       cause = λ tells bodies has. omega (arith, (next tells bodies has).no_fewer, told_is, fewer);
     })
 
@@ -451,6 +443,7 @@ fill_frame k ran = record {
   spared = ran.spared;
   refused = ran.refused;
   heard = ran.heard;
+  synced = ran.synced;
 }
 
 -- a refusal handed on
@@ -464,10 +457,10 @@ same_frame error was is ran =
 pub entry_frame : {H T U V : Type 0} {m : HostModel H} {P : List ℕ → List ℕ → Type 0} {h0 h1 h2 : H} {one : Result T Refusal}
     {two : Result U HostError} {result : Result V Refusal} (k : ℕ) → IsOk one
     → RanSession m (AgreesOutside (fill_files k)) h0 h1 one → RanSyncing m 2 host.Fault (FileBecomes journal_file P) h1 h2 two
-    → Handed host.Fault two result → RanSession m KeepsApart h0 h2 result
-entry_frame k ok filled appended handed =
+    → Handed host.Fault two result → (IsOk result → IsOk two) → RanSession m KeepsApart h0 h2 result
+entry_frame k ok filled appended handed fine =
     let one = fill_frame k filled in
-    session_then ok one (session_syncing appended handed.there handed.back)
+    session_then ok one (session_syncing appended handed.there handed.back fine)
     (leads_again (λ a b d first second. keeps_again first second) one.leads
     (leads_more appended.leads (λ start image becomes. entry_keeps becomes)))
 

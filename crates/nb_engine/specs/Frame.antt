@@ -23,7 +23,7 @@ pub record KeepsApart (old new : Image) : Type 0 where
 
 -- The frame of a session's calls: where they lead, and what they owe to the counts. Device stands for a fault: it comes where
 -- they came to an end at one, and every other answer where there was none. No say on Err was refused, and where they succeed
--- none at all.
+-- none at all; and the count of syncs is no lower.
 pub record RanSession {H T : Type 0} (m : HostModel H) (by : Image → Image → Type 0) (old new : H) (result : Result T Refusal) : Type 0 where
   pub leads : Leads m by old new
   pub count : m.faults old ≤ m.faults new
@@ -33,3 +33,4 @@ pub record RanSession {H T : Type 0} (m : HostModel H) (by : Image → Image →
       → (m.tally new).refused_says channels.Err ≡ (m.tally old).refused_says channels.Err
   pub heard : IsTrue m.tells → IsOk result
       → (m.tally new).refused_says channels.Out ≡ (m.tally old).refused_says channels.Out
+  pub synced : IsTrue m.tells → IsOk result → (m.tally old).syncs ≤ (m.tally new).syncs

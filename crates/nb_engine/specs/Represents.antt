@@ -26,9 +26,10 @@ pub record IsSnapshotOf (run : Run) (k : ℕ) (file : List ℕ) : Type 0 where
   pub due : IsDue run k
   pub bytes : IsSnapshot file (state_of run k) (time_of run k)
 
--- The image represents the run up to tick k, which its journal tells. The slot of tick k holds the list after it, in Morton
+-- The image represents the run up to tick k, and its journal is this one. The slot of tick k holds the list after it, in Morton
 -- order, behind the first tick with the half kicks that the next one begins with. Each snapshot that was due before is
--- finished. One that is opened, of a tick up to k, is the run's: so what an earlier run left behind isn't taken for it.
+-- finished. What is opened under the name of a tick up to k is the run's snapshot, where one is due: so what an earlier run left
+-- behind isn't taken for it.
 pub record Represents (log : Log) (run : Run) (k : ℕ) (image : Image) : Type 0 where
   pub journal : IsCleanJournal log (image.file journal_file)
   pub start : IsSnapshot (image.file init_file) run.bodies run.begin
@@ -38,9 +39,13 @@ pub record Represents (log : Log) (run : Run) (k : ℕ) (image : Image) : Type 0
   pub finished : (j : ℕ) → IsDue run j → j < k → IsFinishedSnapshot (length run.bodies) (image.file (snap_of j))
   pub right : (j : ℕ) → 1 ≤ j → j ≤ k → IsOpened (image.file (snap_of j)) → IsSnapshotOf run j (image.file (snap_of j))
 
--- It represents the run of a history, up to the last tick that is done, and no tick beyond was acknowledged.
+-- It represents the run of a history, up to the last tick that is done.
+abbrev pub RepresentsRun : History → Image → Type 0
+RepresentsRun h image = Represents h.log (run_of h) (ticks_of h) image
+
+-- It does, and no tick beyond was acknowledged.
 pub record RepresentsHistory (h : History) (image : Image) : Type 0 where
-  pub files : Represents h.log (run_of h) (ticks_of h) image
+  pub run : RepresentsRun h image
   pub told : IsToldUpTo (ticks_of h) (image.said channels.Out)
 
 -- Each snapshot that is due up to tick k is finished: that of tick k too, before a gate opens.

@@ -1,19 +1,30 @@
 -- What the writing of a run's snapshot leaves.
-use Rattle.std.specs.Prelude.{◌≡◌, ◌≢◌, ℕ, List, [], ◌∷◌, IsTrue, length, map}
+use Rattle.std.specs.Prelude.{◌≡◌, ℕ, List, [], ◌∷◌, IsTrue, length, map}
 use Rattle.std.specs.List.Sorted.{IsStrictlyIncreasing}
 use Rattle.nb_model.specs.declared.body.Body.{Body}
 use Rattle.nb_host.specs.declared.page_name.PageName.{PageName}
+use Rattle.nb_host.specs.Crashes.{AgreesOutside}
+use Rattle.nb_host.specs.Image.{Image}
 use Rattle.nb_host.specs.Meaning.{HostModel}
-use Rattle.nb_journal.specs.Offsets.{journal_file}
+use Rattle.nb_format.specs.Snapshot.{IsFinishedSnapshot}
+use Rattle.nb_journal.specs.Form.{Log, progress_of}
 use Rattle.nb_record.specs.Order.{by_key, sorted_by, HoldsBodies}
 use Rattle.nb_tick.specs.Slots.{sorted_file}
 use Rattle.nb_engine.specs.declared.refusal.Refusal.{Refusal}
 use Rattle.nb_engine.specs.declared.refusal.Refusal.TheVariants as refusal
+use Rattle.nb_engine.specs.Due.{IsLastDue}
 use Rattle.nb_engine.specs.Represents.{snap_of}
 
 -- the files that the snapshot after tick k changes: the one in which the bodies are put into the order of their ids, and its own
 abbrev pub snapshot_files : ℕ → List ℕ
 snapshot_files k = sorted_file ∷ snap_of k ∷ []
+
+-- What the finishing of the snapshot after the last tick of a journal may have changed at some moment, done or not: where it isn't
+-- due, or is finished, nothing.
+pub record FinishLeads (log : Log) (old new : Image) : Type 0 where
+  pub others : AgreesOutside (snapshot_files (progress_of log).ticks) old new
+  pub due : (IsLastDue log → ⊥) → new ≡ old
+  pub finished : IsFinishedSnapshot log.count (old.file (snap_of (progress_of log).ticks)) → new ≡ old
 
 -- The file holds these bodies, so many, in the order of their ids.
 pub record HoldsByIds (count : ℕ) (bodies : List Body) (file : List ℕ) : Type 0 where
@@ -27,10 +38,10 @@ pub record HoldsByKeys (count : ℕ) (bodies : List Body) (file : List ℕ) : Ty
   pub count_is : length bodies ≡ count
   pub rises : IsStrictlyIncreasing (map (λ b. b.id) bodies)
 
--- A page isn't what it has to be: it is one of a file but the journal's, and over a host that tells this file doesn't hold what
--- it has to.
-pub record IsBroken {H : Type 0} (m : HostModel H) (Holds : List Body → Type 0) (why : Refusal) : Type 0 where
+-- A page isn't what it has to be: it is one of such a file, and over a host that tells there are no bodies that are held as they
+-- have to be.
+pub record IsBroken {H : Type 0} (m : HostModel H) (IsFile : ℕ → Type 0) (Holds : List Body → Type 0) (why : Refusal) : Type 0 where
   pub page : PageName
   pub shown : why ≡ refusal.Damaged page
-  pub file : page.file ≢ journal_file
+  pub file : IsFile page.file
   pub cause : IsTrue m.tells → (bodies : List Body) → Holds bodies → ⊥

@@ -1,6 +1,5 @@
 -- What a run begins with, and when none can begin.
 use Rattle.std.specs.Prelude.{◌≡◌, ◌⊎◌, ⊤, ℕ, ◌*◌, nat_le, if◌then◌else◌, Bool, IsTrue, Option, None, Some, Ok, Err, List, [], ◌∷◌, length}
-use Rattle.nb_host.specs.declared.host.Channel.TheVariants as channels
 use Rattle.nb_host.specs.Crashes.{AgreesOutside}
 use Rattle.nb_host.specs.Image.{Image}
 use Rattle.nb_model.specs.declared.body.Body.{Body}
@@ -19,11 +18,10 @@ use Rattle.nb_journal.specs.Offsets.{journal_file}
 use Rattle.nb_engine.specs.declared.refusal.Refusal.{Refusal}
 use Rattle.nb_engine.specs.declared.refusal.Refusal.TheVariants as refusal
 use Rattle.nb_engine.specs.declared.run_start.Begun.{Begun}
-use Rattle.nb_engine.specs.Histories.{History}
+use Rattle.nb_engine.specs.Histories.{History, run_of}
 use Rattle.nb_engine.specs.Refusal.{damaged_journal}
-use Rattle.nb_engine.specs.Acknowledged.{IsToldUpTo}
-use Rattle.nb_engine.specs.Files.{params_file, init_file}
-use Rattle.nb_engine.specs.Represents.{RepresentsHistory}
+use Rattle.nb_engine.specs.Files.{params_file, init_file, IsPagedFile}
+use Rattle.nb_engine.specs.Represents.{Represents}
 use Rattle.nb_tick.specs.Slots.{slot_of, drifted_file}
 
 -- what a run begins with: its parameters, and the bodies at a time
@@ -81,18 +79,26 @@ started start = record {
   bodies = start.bodies;
 }
 
+-- The image represents the run that starts so, without a tick.
+abbrev pub IsBegun : Start → Image → Type 0
+IsBegun start image = Represents (started start).log (run_of (started start)) 0 image
+
 -- The answer tells how many bodies there are, and the time.
 pub record TellsStart (start : Start) (begun : Begun) : Type 0 where
   pub count : begun.count ≡ length start.bodies
   pub time : begun.time ≡ start.time
 
--- What `start` may have changed at some moment, done or not: the journal and the files in which it lays down the bodies. Of an
--- honest host no run is started still, or it is this one, where it can be. Where none can, nothing changes.
+-- What `start` may have changed at some moment, done or not: the journal and the files in which it lays down the bodies; it says
+-- nothing. Of an honest host no run is started still, or it is this one, where it can be. Where none can, nothing changes.
 pub record StartLeads (honest : Bool) (old new : Image) : Type 0 where
   pub others : AgreesOutside (journal_file ∷ slot_of 0 ∷ drifted_file ∷ []) old new
   pub idle : ((start : Start) → IsStartReady old.file start → ⊥) → new ≡ old
   pub begins : IsTrue honest → IsFresh (old.file journal_file) → IsFresh (new.file journal_file)
-      ⊎ ((start : Start) × IsStartReady old.file start × (IsToldUpTo 0 (old.said channels.Out) → RepresentsHistory (started start) new))
+      ⊎ ((start : Start) × IsStartReady old.file start × IsBegun start new)
+
+-- a file from which `start` reads the bodies that it lays down: the initial snapshot, and then a file of pages
+abbrev pub IsReadFile : ℕ → Type 0
+IsReadFile number = (number ≡ init_file) ⊎ IsPagedFile number
 
 -- a refusal that `start` gives, whatever the host tells
 abbrev pub IsOfStart : Refusal → Type 0

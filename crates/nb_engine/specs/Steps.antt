@@ -1,5 +1,5 @@
 -- What the steps of a session need of a folder, and what they leave of it.
-use Rattle.std.specs.Prelude.{◌≡◌, ◌≢◌, ℕ, zero, suc, ◌+◌, ◌≤◌, IsTrue, List, [], ◌∷◌, ◌++◌, length, take, Contains}
+use Rattle.std.specs.Prelude.{◌≡◌, ◌≢◌, ◌⊎◌, ℕ, zero, suc, ◌+◌, ◌<◌, ◌≤◌, IsTrue, List, [], ◌∷◌, ◌++◌, length, take, Contains}
 use Rattle.nb_model.specs.declared.body.Body.{Body}
 use Rattle.nb_model.specs.Leapfrog.{escaped_count, half_kick}
 use Rattle.nb_model.specs.Valid.{IsValidBodies}
@@ -10,7 +10,6 @@ use Rattle.nb_host.specs.Meaning.{HostModel, IsDurable}
 use Rattle.nb_format.specs.Lines.{tick_line}
 use Rattle.nb_format.specs.Snapshot.{IsFinishedSnapshot}
 use Rattle.nb_journal.specs.Counters.{Counters, Answers}
-use Rattle.nb_journal.specs.Offsets.{journal_file}
 use Rattle.nb_record.specs.Order.{by_key, sorted_by, HoldsBodies, HoldsKickedBodies}
 use Rattle.nb_cache.specs.InStep.{IsInStep}
 use Rattle.nb_cache.specs.View.{CacheValue}
@@ -19,7 +18,8 @@ use Rattle.nb_tick.specs.State.{IsCellIndexOf}
 use Rattle.nb_engine.specs.declared.refusal.Refusal.{Refusal}
 use Rattle.nb_engine.specs.declared.refusal.Refusal.TheVariants as refusal
 use Rattle.nb_engine.specs.Histories.{Run, state_of, time_of, History, run_of, ticks_of, IsHistory, ticked}
-use Rattle.nb_engine.specs.Represents.{snap_of, IsOpened, IsComplete, RepresentsHistory}
+use Rattle.nb_engine.specs.Files.{IsPagedFile}
+use Rattle.nb_engine.specs.Represents.{snap_of, IsOpened, IsComplete, RepresentsRun}
 
 -- ---- the lines of ticks
 
@@ -36,6 +36,11 @@ lines_behind run k (suc n) = lines_behind run k n ++ line_of run (suc (k + n))
 abbrev pub SaidFrontOf : List ℕ → List ℕ → List ℕ → Type 0
 SaidFrontOf text old new = (n : ℕ) × (n ≤ length text) × (new ≡ old ++ take n text)
 
+-- What was said since tick k, when n ticks are done behind it: the lines of all but the last, and a front of the last one's.
+abbrev pub SaidLinesOf : Run → ℕ → ℕ → List ℕ → List ℕ → Type 0
+SaidLinesOf run k zero old new = new ≡ old
+SaidLinesOf run k (suc n) old new = SaidFrontOf (line_of run (suc (k + n))) (old ++ lines_behind run k n) new
+
 -- ---- before and behind a step
 
 -- the history n ticks later
@@ -49,7 +54,7 @@ pub record IsAt {H : Type 0} (m : HostModel H) (h : History) (journal : Counters
   pub durable : IsDurable m host
   pub is : IsHistory h
   pub answers : Answers h.log journal
-  pub represents : RepresentsHistory h (m.contents host)
+  pub represents : RepresentsRun h (m.contents host)
 
 -- The cache is in step with its host, and of its files only the scratch file of a snapshot may be unwritten.
 pub record IsSettled {H : Type 0} (m : HostModel H) (cache : CacheValue) (host : H) : Type 0 where
@@ -64,12 +69,12 @@ pub record HasState (journal : Counters) (bodies : List Body) (files : ℕ → L
   pub gone : escaped_count bodies ≡ journal.progress.gone
   pub slot : HoldsBodies (files (slot_of journal.progress.ticks)) (sorted_by by_key bodies)
 
--- A page isn't what it has to be: it is one of a file but the journal's, and over a host that tells the folder doesn't hold
--- what its run needs to go on.
+-- A page isn't what it has to be: it is one of a file of pages, and over a host that tells the folder doesn't hold what its run
+-- needs to go on.
 pub record IsSpoilt {H : Type 0} (m : HostModel H) (journal : Counters) (host : H) (why : Refusal) : Type 0 where
   pub page : PageName
   pub shown : why ≡ refusal.Damaged page
-  pub file : page.file ≢ journal_file
+  pub file : IsPagedFile page.file
   pub cause : IsTrue m.tells → (bodies : List Body) → HasState journal bodies (m.contents host).file → ⊥
 
 -- ---- one tick
@@ -79,7 +84,7 @@ abbrev pub fill_files : ℕ → List ℕ
 fill_files k = slot_of (suc k) ∷ drifted_file ∷ sorted_file ∷ cell_file ∷ snap_of (suc k) ∷ []
 
 -- Before the entry of the next tick: the other slot holds the list after it, in Morton order with its half kicks, the file of
--- cells is its index, and nothing stands under the name of its snapshot.
+-- cells is its index, and what stands under the name of its snapshot isn't opened.
 pub record IsFilled (h : History) (image : Image) : Type 0 where
   pub slot : HoldsKickedBodies (image.file (slot_of (suc (ticks_of h))))
       (half_kick h.log.params (state_of (run_of h) (suc (ticks_of h))))
@@ -98,22 +103,32 @@ pub record HasNext (journal : Counters) (gone : ℕ) (files : ℕ → List ℕ) 
 
 -- ---- ticks
 
+-- A tick whose snapshot's name isn't written while n ticks are taken behind tick k: it is before that, or behind them.
+abbrev pub IsPassed : ℕ → ℕ → ℕ → Type 0
+IsPassed k n j = (j < k) ⊎ (k + n < j)
+
 -- What a folder that represented a history may hold at some moment since, when at most so many ticks came behind: it
--- represents the history some ticks later, each snapshot that was finished is as it was, and what was said is a front of
--- their lines.
+-- represents the history some ticks later, each snapshot that was finished is as it was, as is what stands under the names
+-- of ticks before the last one and behind the next, and what was said is the lines of all of them but the last, and a front of
+-- the last one's: the whole of it before the snapshot of its tick is opened.
 pub record GoesOn (most : ℕ) (h : History) (before image : Image) : Type 0 where
   pub done : ℕ
   pub few : done ≤ most
-  pub represents : RepresentsHistory (played done h) image
+  pub represents : RepresentsRun (played done h) image
   pub kept : (j : ℕ) → j ≤ ticks_of h → IsFinishedSnapshot (length h.bodies) (before.file (snap_of j))
       → image.file (snap_of j) ≡ before.file (snap_of j)
-  pub said : SaidFrontOf (lines_behind (run_of h) (ticks_of h) done) (before.said channels.Out) (image.said channels.Out)
+  pub others : (j : ℕ) → IsPassed (ticks_of h) (suc done) j ⊎ IsPassed (ticks_of h) most j
+      → image.file (snap_of j) ≡ before.file (snap_of j)
+  pub said : SaidLinesOf (run_of h) (ticks_of h) done (before.said channels.Out) (image.said channels.Out)
+  pub first : IsOpened (image.file (snap_of (ticks_of h + done)))
+      → image.said channels.Out ≡ before.said channels.Out ++ lines_behind (run_of h) (ticks_of h) done
 
 -- So many ticks are done, and told: all of that is durable, and the journal in hand tells it.
 pub record HasPlayed {H : Type 0} (m : HostModel H) (n : ℕ) (h : History) (before : Image) (journal : Counters) (host : H) : Type 0 where
   pub at : IsAt m (played n h) journal host
   pub kept : (j : ℕ) → j ≤ ticks_of h → IsFinishedSnapshot (length h.bodies) (before.file (snap_of j))
       → (m.contents host).file (snap_of j) ≡ before.file (snap_of j)
+  pub others : (j : ℕ) → IsPassed (ticks_of h) n j → (m.contents host).file (snap_of j) ≡ before.file (snap_of j)
   pub said : (m.contents host).said channels.Out ≡ before.said channels.Out ++ lines_behind (run_of h) (ticks_of h) n
   pub cells : n ≢ 0
       → IsCellIndexOf h.log.params (state_of (run_of (played n h)) (ticks_of (played n h))) ((m.contents host).file cell_file)

@@ -8,7 +8,7 @@ ghost use Rattle.nb_journal.specs.Finding.{IsFound};
 ghost use Rattle.nb_journal.specs.Form.{IsJournal};
 ghost use Rattle.nb_journal.specs.Offsets.{journal_file};
 ghost use Rattle.nb_engine.specs.Due.{IsDueBy, TellsDue};
-ghost use Rattle.nb_engine.specs.Histories.{History, IsHistory};
+ghost use Rattle.nb_engine.specs.Histories.{History};
 ghost use Rattle.nb_engine.specs.Refusal.{NeedsNoCause};
 ghost use Rattle.nb_engine.specs.Shown.{IsOfShow};
 
@@ -28,7 +28,7 @@ pub(crate) fn is_due(journal: &Journal) -> bool
 /// Whether a snapshot is due after the last tick of the journal, whatever its last entry is: where that is a
 /// leg, the tick before it ended the one before.
 pub(crate) fn is_last_due<H: Host>(host: &mut H, journal: &Journal) -> Result<bool, Refusal>
-    ensures due { IfOk result (λ due. IsTrue H.meaning.tells → (h : History) → IsHistory h
+    ensures due { IfOk result (λ due. IsTrue H.meaning.tells → (h : History)
         → Answers h.log journal.now → IsJournal h.log ((H.meaning.contents host.old).file journal_file)
         → TellsDue h due) }
     ensures cause { IfErr result (λ why. IsTrue H.meaning.tells

@@ -6,10 +6,10 @@ ghost use Rattle.nb_model.specs.Limits.{most_ticks};
 ghost use Rattle.nb_engine.specs.Represents.{snap_of};
 
 /// The file of the parameters.
-pub(crate) const PARAMS_FILE: u64 = 0;
+pub const PARAMS_FILE: u64 = 0;
 
 /// The file of the initial snapshot.
-pub(crate) const INIT_FILE: u64 = 1;
+pub const INIT_FILE: u64 = 1;
 
 /// The file into which the initial snapshot is read.
 pub(crate) const READ_FILE: u64 = 5;
@@ -21,7 +21,7 @@ pub(crate) const SORTED_FILE: u64 = 6;
 const FIRST_SNAPSHOT: u64 = 16;
 
 /// The file of the snapshot that is written after so many ticks.
-pub(crate) fn snapshot_file(ticks: u64) -> u64
+pub fn snapshot_file(ticks: u64) -> u64
     requires { ticks ≤ most_ticks }
     ensures number { result ≡ snap_of ticks }
     ensures there { result ≤ LAST_FILE }

@@ -10,11 +10,12 @@ ghost use Rattle.nb_journal.specs.Offsets.{journal_file};
 ghost use Rattle.nb_engine.specs.Frame.{EachImage, KeepsApart, RanSession};
 ghost use Rattle.nb_engine.specs.Histories.{History, IsHistory};
 ghost use Rattle.nb_engine.specs.Refusal.{NeedsNoCause};
-ghost use Rattle.nb_engine.specs.Represents.{RepresentsHistory};
-ghost use Rattle.nb_engine.specs.Sessions.{IsPace, ticks_left, ticks_to, aimed_at, IsLed, SessionLeads, GoLeads, ResumeLeads, IsNoLeg, IsGoRefused, CanGo, CanResume, IsSlotSpoilt, IsOfGo, IsOfResume};
+ghost use Rattle.nb_engine.specs.Represents.{RepresentsRun};
+ghost use Rattle.nb_engine.specs.Sessions.{IsPace, ticks_left, ticks_to, aimed_at, IsLed, SessionLeads, GoLeads, ResumeLeads, IsNoLeg, IsGoRefused, CanGo, CanResume, IsSlotSpoilt, IsOfGo, IsOfLeg, IsBroughtUp, IsOfResume};
 ghost use Rattle.nb_engine.specs.Shown.{IsNotShown};
 ghost use Rattle.nb_engine.specs.Snapshots.{snapshot_files};
 
+use crate::laws::law_times;
 use crate::opening::{Session, open};
 use crate::refusal::Refusal;
 use crate::ticking::run_leg;
@@ -50,17 +51,23 @@ pub fn go<H: Host>(alloc: Global, host: &mut H, pace: Pace, target: u64) -> Resu
     requires pace { IsPace pace }
     requires durable { IsDurable H.meaning host.old }
     ensures done { IfOk result (λ done. IsTrue H.meaning.tells → (h : History) → IsHistory h
-        → RepresentsHistory h (H.meaning.contents host.old)
+        → RepresentsRun h (H.meaning.contents host.old)
         → IsLed (ticks_to target h) (aimed_at target h) (H.meaning.contents host.old) done
         (H.meaning.contents host.new)) }
+    ensures there { IfOk result (λ done. done.time ≡ target) }
     ensures ready { OnOk result (IsTrue H.meaning.tells → CanGo target (H.meaning.contents host.old).file) }
     ensures durable { OnOk result (IsDurable H.meaning host.new) }
     ensures cause { IfErr result (λ why. IsTrue H.meaning.tells → NeedsNoCause why
         ⊎ IsGoRefused target (H.meaning.contents host.old).file why
         ⊎ IsSlotSpoilt (H.meaning.contents host.old).file why) }
     ensures refusals { IfErr result IsOfGo }
+    ensures refused { IfErr result (λ why. IsOfLeg why → IsBroughtUp H.meaning host.old host.new) }
+    ensures unsynced { IsTrue H.meaning.tells
+        → ((log : Log) → IsJournal log ((H.meaning.contents host.old).file journal_file) → ⊥)
+        → H.meaning.tally host.new ≡ H.meaning.tally host.old }
     ensures ran { RanSession H.meaning (GoLeads H.meaning.crashes.is_honest target) host.old host.new result }
 {
+    law_times();
     let Session { journal, mut work } = open(alloc, host, pace)?;
     if let Some(why) = no_leg(&journal, target) {
         return Err(why);
@@ -79,17 +86,23 @@ pub fn resume<H: Host>(alloc: Global, host: &mut H, pace: Pace) -> Result<Done, 
     requires pace { IsPace pace }
     requires durable { IsDurable H.meaning host.old }
     ensures done { IfOk result (λ done. IsTrue H.meaning.tells → (h : History) → IsHistory h
-        → RepresentsHistory h (H.meaning.contents host.old)
+        → RepresentsRun h (H.meaning.contents host.old)
         → IsLed (ticks_left (progress_of h.log)) h (H.meaning.contents host.old) done
         (H.meaning.contents host.new)) }
+    ensures there { IfOk result (λ done. IsTrue H.meaning.tells → (log : Log)
+        → IsJournal log ((H.meaning.contents host.old).file journal_file) → done.time ≡ (progress_of log).target) }
     ensures ready { OnOk result (IsTrue H.meaning.tells → CanResume (H.meaning.contents host.old).file) }
     ensures durable { OnOk result (IsDurable H.meaning host.new) }
     ensures cause { IfErr result (λ why. IsTrue H.meaning.tells → NeedsNoCause why
         ⊎ IsNotShown ((H.meaning.contents host.old).file journal_file) why
         ⊎ IsSlotSpoilt (H.meaning.contents host.old).file why) }
     ensures refusals { IfErr result IsOfResume }
+    ensures unsynced { IsTrue H.meaning.tells
+        → ((log : Log) → IsJournal log ((H.meaning.contents host.old).file journal_file) → ⊥)
+        → H.meaning.tally host.new ≡ H.meaning.tally host.old }
     ensures ran { RanSession H.meaning (ResumeLeads H.meaning.crashes.is_honest) host.old host.new result }
 {
+    law_times();
     let Session { journal, mut work } = open(alloc, host, pace)?;
     let journal = run_leg(host, &mut work, journal)?;
     Ok(done_of(&journal))

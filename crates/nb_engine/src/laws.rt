@@ -4,7 +4,6 @@
 ghost use Rattle.std.specs.Prelude.{◌≡◌, ℕ, ◌≤◌, ◌<◌, ◌^◌, List, [], ◌∷◌, ◌++◌, take, length};
 ghost use Rattle.nb_host.specs.Crashes.{AgreesOutside};
 ghost use Rattle.nb_host.specs.Image.{Image};
-ghost use Rattle.nb_host.specs.declared.host.Channel.TheVariants as channels;
 ghost use Rattle.nb_model.specs.Leapfrog.{escaped_count};
 ghost use Rattle.nb_model.specs.Valid.{IsValidBodies};
 ghost use Rattle.nb_format.specs.Lines.{tick_line};
@@ -16,7 +15,7 @@ ghost use Rattle.nb_engine.specs.Acknowledged.{IsToldUpTo, IsOtherText};
 ghost use Rattle.nb_engine.specs.Histories.{Run, state_of, time_of, length_of, IsRun, History, run_of, ticks_of, IsHistory, ticked, legged};
 ghost use Rattle.nb_tick.specs.Slots.{slot_of};
 ghost use Rattle.nb_engine.specs.Files.{init_file};
-ghost use Rattle.nb_engine.specs.Represents.{snap_of, Represents, RepresentsHistory};
+ghost use Rattle.nb_engine.specs.Represents.{snap_of, RepresentsRun};
 ghost use Rattle.nb_engine.specs.Gates.{CanTick};
 
 use nb_format::{law_one_tick, law_said_lines};
@@ -43,7 +42,7 @@ pub fn law_times()
         → escaped_count (state_of run k) ≡ escaped_count run.bodies → i ≤ k → j ≤ k
         → time_of run i ≡ time_of run j → state_of run i ≡ state_of run j }
     ensures snapshots { (h : History) (image : Image) (i j : ℕ) → IsHistory h
-        → Represents h.log (run_of h) (ticks_of h) image
+        → RepresentsRun h image
         → escaped_count (state_of (run_of h) (ticks_of h)) ≡ escaped_count h.bodies
         → 1 ≤ i → i ≤ ticks_of h → 1 ≤ j → j ≤ ticks_of h
         → time_of (run_of h) i ≡ time_of (run_of h) j
@@ -51,7 +50,7 @@ pub fn law_times()
         → IsFinishedSnapshot (length h.bodies) (image.file (snap_of j))
         → image.file (snap_of i) ≡ image.file (snap_of j) }
     ensures back { (h : History) (image : Image) (i : ℕ) → IsHistory h
-        → Represents h.log (run_of h) (ticks_of h) image
+        → RepresentsRun h image
         → escaped_count (state_of (run_of h) (ticks_of h)) ≡ escaped_count h.bodies
         → 1 ≤ i → i ≤ ticks_of h → time_of (run_of h) i ≡ h.log.begin_time
         → IsFinishedSnapshot (length h.bodies) (image.file (snap_of i))
@@ -80,18 +79,18 @@ pub fn law_acknowledged()
 /// kicks, all due snapshots are finished, and the next tick's file isn't opened. Behind that of a leg it
 /// represents the run with that leg. Through calls that spare what it names it represents what it did.
 pub fn law_represents()
-    ensures kept { (h : History) (old new : Image) → RepresentsHistory h old
+    ensures kept { (h : History) (old new : Image) → RepresentsRun h old
         → new.file journal_file ≡ old.file journal_file → new.file init_file ≡ old.file init_file
         → new.file (slot_of (ticks_of h)) ≡ old.file (slot_of (ticks_of h))
         → ((j : ℕ) → 1 ≤ j → j ≤ ticks_of h → new.file (snap_of j) ≡ old.file (snap_of j))
-        → new.said channels.Out ≡ old.said channels.Out → RepresentsHistory h new }
+        → RepresentsRun h new }
     ensures tick { (h : History) (before new : Image) → IsHistory h
-        → RepresentsHistory h before → CanTick h before → AgreesOutside (journal_file ∷ []) before new
+        → RepresentsRun h before → CanTick h before → AgreesOutside (journal_file ∷ []) before new
         → IsCleanJournal (ticked h).log (new.file journal_file)
-        → IsHistory (ticked h) × RepresentsHistory (ticked h) new }
+        → IsHistory (ticked h) × RepresentsRun (ticked h) new }
     ensures leg { (h : History) (target : ℕ) (before new : Image) → IsHistory h
-        → IsNextLeg (progress_of h.log) target → RepresentsHistory h before
+        → IsNextLeg (progress_of h.log) target → RepresentsRun h before
         → AgreesOutside (journal_file ∷ []) before new
         → IsCleanJournal (legged target h).log (new.file journal_file)
-        → IsHistory (legged target h) × RepresentsHistory (legged target h) new }
+        → IsHistory (legged target h) × RepresentsRun (legged target h) new }
 {}

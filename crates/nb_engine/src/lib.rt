@@ -21,6 +21,7 @@ mod tests;
 mod ticking;
 mod workspace;
 
+pub use files::{INIT_FILE, PARAMS_FILE, snapshot_file};
 pub use going::{Done, Pace, go, resume};
 pub use init_file::{Census, survey};
 pub use laws::{law_acknowledged, law_represents, law_run, law_times};

@@ -4,11 +4,12 @@ ghost use Rattle.std.specs.Prelude.{◌≡◌, ◌⊎◌, ℕ, IsTrue, IfOk, IfE
 ghost use Rattle.nb_host.specs.Crashes.{AgreesOutside, Stays};
 ghost use Rattle.nb_host.specs.Meaning.{IsDurable, Leads, Ran};
 ghost use Rattle.nb_journal.specs.Finding.{IsFound};
+ghost use Rattle.nb_journal.specs.Form.{Log, IsJournal};
 ghost use Rattle.nb_journal.specs.Offsets.{journal_file};
 ghost use Rattle.nb_engine.specs.Frame.{EachImage, RanSession};
 ghost use Rattle.nb_engine.specs.Histories.{History, IsHistory};
 ghost use Rattle.nb_engine.specs.Refusal.{NeedsNoCause};
-ghost use Rattle.nb_engine.specs.Represents.{RepresentsHistory};
+ghost use Rattle.nb_engine.specs.Represents.{RepresentsRun};
 ghost use Rattle.nb_engine.specs.Sessions.{IsPace, OpenLeads, IsSlotSpoilt};
 ghost use Rattle.nb_engine.specs.Shown.{IsNotShown, IsOfShow};
 ghost use Rattle.nb_engine.specs.Snapshots.{snapshot_files};
@@ -40,16 +41,19 @@ pub(crate) fn open<H: Host>(alloc: Global, host: &mut H, pace: Pace) -> Result<S
     ensures found { IfOk result (λ session. IsTrue H.meaning.tells
         → IsFound session.journal ((H.meaning.contents host.old).file journal_file)) }
     ensures opened { IfOk result (λ session. IsTrue H.meaning.tells → (h : History) → IsHistory h
-        → RepresentsHistory h (H.meaning.contents host.old)
+        → RepresentsRun h (H.meaning.contents host.old)
         → HasPlayed H.meaning 0 h (H.meaning.contents host.old) session.journal host.new
         × IsUpToDate H.meaning h host.new) }
     ensures images { (h : History) → IsHistory h
-        → RepresentsHistory h (H.meaning.contents host.old)
+        → RepresentsRun h (H.meaning.contents host.old)
         → EachImage H.meaning (GoesOn 0 h (H.meaning.contents host.old)) host.old host.new }
     ensures cause { IfErr result (λ why. IsTrue H.meaning.tells → NeedsNoCause why
         ⊎ IsNotShown ((H.meaning.contents host.old).file journal_file) why
         ⊎ IsSlotSpoilt (H.meaning.contents host.old).file why) }
     ensures refusals { IfErr result IsOfShow }
+    ensures unsynced { IsTrue H.meaning.tells
+        → ((log : Log) → IsJournal log ((H.meaning.contents host.old).file journal_file) → ⊥)
+        → H.meaning.tally host.new ≡ H.meaning.tally host.old }
     ensures ran { RanSession H.meaning OpenLeads host.old host.new result }
 {
     let journal = find_journal(host)?;

@@ -2,7 +2,6 @@
 
 ghost use Rattle.std.specs.Prelude.{◌≡◌, ◌⊎◌, ◌^◌, ◌≤◌, ℕ, List, [], ◌∷◌, Contains, IsTrue, IfOk, IfErr, OnOk};
 ghost use Rattle.nb_model.specs.declared.body.Body.{Body as Bodies};
-ghost use Rattle.nb_host.specs.declared.host.Channel.TheVariants as channels;
 ghost use Rattle.nb_host.specs.Crashes.{Stays};
 ghost use Rattle.nb_host.specs.Meaning.{IsDurable, Ran};
 ghost use Rattle.nb_format.specs.Reader.{IsAtStart, HasRead, time_of};
@@ -14,15 +13,13 @@ ghost use Rattle.nb_cache.specs.View.{seen};
 ghost use Rattle.nb_cache.specs.Writes.{RanCached};
 ghost use Rattle.nb_record.specs.Order.{by_key, sorted_by, HoldsBodies};
 ghost use Rattle.nb_tick.specs.Slots.{slot_of, drifted_file};
-ghost use Rattle.nb_engine.specs.Acknowledged.{IsToldUpTo};
 ghost use Rattle.nb_engine.specs.Files.{init_file};
 ghost use Rattle.nb_engine.specs.Frame.{RanSession};
 ghost use Rattle.nb_engine.specs.Reading.{census_of, IsCensus, plan_of, IsPlan, IsPlanned};
 ghost use Rattle.nb_engine.specs.Refusal.{NeedsNoCause, of_second_reading};
-ghost use Rattle.nb_engine.specs.Represents.{RepresentsHistory};
 ghost use Rattle.nb_engine.specs.declared.refusal.Refusal.TheVariants as refusals;
 ghost use Rattle.nb_engine.specs.Snapshots.{IsBroken};
-ghost use Rattle.nb_engine.specs.Start.{Start, IsStartReady, IsStartRefused, started, TellsStart, StartLeads, IsOfStart};
+ghost use Rattle.nb_engine.specs.Start.{Start, IsStartReady, IsStartRefused, IsBegun, TellsStart, StartLeads, IsReadFile, IsOfStart};
 
 use crate::files::{INIT_FILE, READ_FILE};
 use crate::init_file::{Census, survey};
@@ -65,12 +62,13 @@ pub fn start<H: Host>(alloc: Global, host: &mut H, pages: u64) -> Result<Begun, 
     requires durable { IsDurable H.meaning host.old }
     ensures begun { IfOk result (λ begun. IsTrue H.meaning.tells
         → (start : Start) × IsStartReady (H.meaning.contents host.old).file start × TellsStart start begun
-        × (IsToldUpTo 0 ((H.meaning.contents host.old).said channels.Out)
-        → RepresentsHistory (started start) (H.meaning.contents host.new))) }
+        × IsBegun start (H.meaning.contents host.new)) }
     ensures durable { OnOk result (IsDurable H.meaning host.new) }
     ensures cause { IfErr result (λ why. IsTrue H.meaning.tells → NeedsNoCause why
         ⊎ IsStartRefused (H.meaning.contents host.old).file why) }
     ensures refusals { IfErr result IsOfStart }
+    ensures unsynced { IfErr result (λ why. IsTrue H.meaning.tells → (NeedsNoCause why → ⊥)
+        → H.meaning.tally host.new ≡ H.meaning.tally host.old) }
     ensures ran { RanSession H.meaning (StartLeads H.meaning.crashes.is_honest) host.old host.new result }
 {
     let plan = plan_run(alloc, host)?;
@@ -139,7 +137,7 @@ fn lay_bodies<H: Host>(
     ensures laid { OnOk result (IsTrue H.meaning.tells → (bodies : List Bodies)
         → IsPlanned plan.now bodies ((H.meaning.contents host.old).file init_file)
         → HoldsBodies ((H.meaning.contents host.new).file (slot_of 0)) (sorted_by by_key bodies)) }
-    ensures cause { IfErr result (λ why. NeedsNoCause why ⊎ IsBroken H.meaning (λ bodies.
+    ensures cause { IfErr result (λ why. NeedsNoCause why ⊎ IsBroken H.meaning IsReadFile (λ bodies.
         IsPlanned plan.now bodies ((H.meaning.contents host.old).file init_file)) why) }
     ensures ran { RanCached H.meaning Refusal.Device (slot_of 0 ∷ drifted_file ∷ []) cache.old host.old
         cache.new host.new result }
@@ -166,7 +164,7 @@ fn read_again<H: Host>(host: &mut H, cache: &mut Cache, plan: &Plan) -> Result<(
     ensures read { OnOk result (IsTrue H.meaning.tells → (bodies : List Bodies)
         → IsPlanned plan.now bodies ((H.meaning.contents host.old).file init_file)
         → HoldsBodies (seen H.meaning cache.new host.new drifted_file) bodies) }
-    ensures cause { IfErr result (λ why. NeedsNoCause why ⊎ IsBroken H.meaning (λ bodies.
+    ensures cause { IfErr result (λ why. NeedsNoCause why ⊎ IsBroken H.meaning IsReadFile (λ bodies.
         IsPlanned plan.now bodies ((H.meaning.contents host.old).file init_file)) why) }
     ensures ran { RanCached H.meaning Refusal.Device (drifted_file ∷ []) cache.old host.old
         cache.new host.new result }
@@ -188,7 +186,7 @@ fn begin_again<H: Host>(host: &mut H) -> Result<SnapReader, Refusal>
     ensures start { IfOk result (IsAtStart init_file) }
     ensures header { IfOk result (λ reader. IsTrue H.meaning.tells
         → HasRead reader ((H.meaning.contents host.old).file init_file) []) }
-    ensures cause { IfErr result (λ why. NeedsNoCause why ⊎ IsBroken H.meaning (λ bodies.
+    ensures cause { IfErr result (λ why. NeedsNoCause why ⊎ IsBroken H.meaning IsReadFile (λ bodies.
         (time : ℕ) × IsSnapshot ((H.meaning.contents host.old).file init_file) bodies time) why) }
     ensures ran { Ran H.meaning Refusal.Device Stays host.old host.new result }
 {
@@ -214,7 +212,7 @@ fn copy_bodies<H: Host>(
         → (bodies : List Bodies) × (census ≡ census_of bodies)
         × IsSnapshot ((H.meaning.contents host.old).file init_file) bodies (time_of reader)
         × HoldsBodies (seen H.meaning cache.new host.new drifted_file) bodies) }
-    ensures cause { IfErr result (λ why. NeedsNoCause why ⊎ IsBroken H.meaning (λ bodies.
+    ensures cause { IfErr result (λ why. NeedsNoCause why ⊎ IsBroken H.meaning IsReadFile (λ bodies.
         HasRead reader ((H.meaning.contents host.old).file init_file) []
         × (seen H.meaning cache.old host.old drifted_file ≡ [])
         × ((time : ℕ) × IsSnapshot ((H.meaning.contents host.old).file init_file) bodies time)) why) }

@@ -3,14 +3,15 @@
 ghost use Rattle.std.specs.Prelude.{◌≡◌, ◌⊎◌, ◌↔◌, ◌<◌, ◌≤◌, List, [], ◌∷◌, None, IsTrue, IfOk, IfErr, OnOk};
 ghost use Rattle.std.specs.Option.{ForSome};
 ghost use Rattle.nb_model.specs.declared.body.Body.{Body as Bodies};
-ghost use Rattle.nb_host.specs.Crashes.{AgreesOutside};
+ghost use Rattle.nb_host.specs.Crashes.{AgreesOutside, Stays};
 ghost use Rattle.nb_host.specs.Meaning.{IsDurable, Leads};
 ghost use Rattle.nb_format.specs.Images.{ChangesWith, IsBeingWritten, IsWritten};
-ghost use Rattle.nb_format.specs.Snapshot.{IsSnapshot};
+ghost use Rattle.nb_format.specs.Snapshot.{IsSnapshot, IsFinishedSnapshot};
 ghost use Rattle.nb_format.specs.Writer.{Plan, plan_of, added_count, last_added, StaysUnfinished};
 ghost use Rattle.nb_cache.specs.View.{seen};
 ghost use Rattle.nb_tick.specs.Slots.{slot_of, sorted_file};
 ghost use Rattle.nb_engine.specs.Due.{TellsDue};
+ghost use Rattle.nb_engine.specs.Files.{IsPagedFile};
 ghost use Rattle.nb_engine.specs.Frame.{EachImage, RanSession};
 ghost use Rattle.nb_engine.specs.Histories.{History};
 ghost use Rattle.nb_engine.specs.Refusal.{NeedsNoCause};
@@ -44,6 +45,9 @@ pub(crate) fn finish<H: Host>(
         × IsUpToDate H.meaning h host.new) }
     ensures images { (h : History) → TellsDue h due → IsAt H.meaning h journal.now host.old
         → EachImage H.meaning (GoesOn 0 h (H.meaning.contents host.old)) host.old host.new }
+    ensures spared { IsTrue H.meaning.tells → (IsTrue due → ⊥)
+        ⊎ IsFinishedSnapshot journal.now.count ((H.meaning.contents host.old).file (snap_of journal.now.progress.ticks))
+        → Leads H.meaning Stays host.old host.new }
     ensures cause { IfErr result (λ why. NeedsNoCause why ⊎ IsSpoilt H.meaning journal.now host.old why) }
     ensures ran { RanSession H.meaning (AgreesOutside (snapshot_files journal.now.progress.ticks))
         host.old host.new result }
@@ -76,7 +80,7 @@ fn write_snapshot<H: Host>(
         ((H.meaning.contents host.old).file (slot_of journal.now.progress.ticks)))
         → Leads H.meaning (ChangesWith (sorted_file ∷ []) (snap_of journal.now.progress.ticks)
         (IsWritten bodies journal.now.progress.time)) host.old host.new }
-    ensures cause { IfErr result (λ why. NeedsNoCause why ⊎ IsBroken H.meaning (λ bodies.
+    ensures cause { IfErr result (λ why. NeedsNoCause why ⊎ IsBroken H.meaning IsPagedFile (λ bodies.
         HoldsByKeys journal.now.count bodies
         ((H.meaning.contents host.old).file (slot_of journal.now.progress.ticks))) why) }
     ensures ran { RanSession H.meaning (AgreesOutside (snapshot_files journal.now.progress.ticks))
@@ -123,7 +127,7 @@ fn add_bodies<H: Host>(
     ensures refused { (plan : Plan) (start : H)
         → IsBeingWritten H.meaning (sorted_file ∷ []) plan filling [] start host.old
         → Leads H.meaning (ChangesWith (sorted_file ∷ []) plan.file StaysUnfinished) start host.new }
-    ensures cause { IfErr result (λ why. NeedsNoCause why ⊎ IsBroken H.meaning (λ bodies.
+    ensures cause { IfErr result (λ why. NeedsNoCause why ⊎ IsBroken H.meaning IsPagedFile (λ bodies.
         HoldsByIds count bodies (seen H.meaning cache.old host.old sorted_file)) why) }
     ensures ran { RanSession H.meaning (AgreesOutside (sorted_file ∷ (plan_of filling).file ∷ []))
         host.old host.new result }

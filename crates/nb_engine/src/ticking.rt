@@ -4,21 +4,20 @@ ghost use Rattle.std.specs.Prelude.{◌≡◌, ◌≢◌, ◌⊎◌, ◌≤◌, 
 ghost use Rattle.nb_model.specs.declared.body.Body.{Body as Bodies};
 ghost use Rattle.nb_model.specs.Leapfrog.{escaped_count};
 ghost use Rattle.nb_host.specs.declared.host.TheConstants.{LAST_FILE};
-ghost use Rattle.nb_host.specs.Crashes.{AgreesOutside};
+ghost use Rattle.nb_host.specs.Crashes.{AgreesOutside, Stays};
 ghost use Rattle.nb_host.specs.Image.{FileBecomes, IsPartlyCut};
-ghost use Rattle.nb_host.specs.Meaning.{IsDurable, Ran};
+ghost use Rattle.nb_host.specs.Meaning.{IsDurable, Leads, Ran};
 ghost use Rattle.nb_journal.specs.Counters.{Answers, counters_after};
 ghost use Rattle.nb_journal.specs.declared.entry.Entry.TheVariants as entries;
 ghost use Rattle.nb_engine.specs.Frame.{EachImage, KeepsApart, RanSession};
 ghost use Rattle.nb_engine.specs.Histories.{History, state_of, run_of, ticks_of, IsHistory, ticked};
 ghost use Rattle.nb_engine.specs.Refusal.{NeedsNoCause};
-ghost use Rattle.nb_engine.specs.Represents.{RepresentsHistory};
+ghost use Rattle.nb_engine.specs.Represents.{RepresentsRun};
 ghost use Rattle.nb_engine.specs.Sessions.{ticks_left};
 ghost use Rattle.nb_engine.specs.Steps.{played, IsAt, IsSettled, HasState, IsSpoilt, fill_files, IsFilled, HasNext, GoesOn, HasPlayed, IsUpToDate};
 
 use crate::due::is_due;
 use crate::files::snapshot_file;
-use crate::laws::law_acknowledged;
 use crate::refusal::Refusal;
 use crate::snapshot::finish;
 use crate::workspace::Workspace;
@@ -37,6 +36,8 @@ pub(crate) fn run_leg<H: Host>(
     requires { IsSettled H.meaning work.old.cache host.old }
     ensures durable { OnOk result (IsDurable H.meaning host.old → IsDurable H.meaning host.new) }
     ensures ended { IfOk result (λ next. next.progress.time ≡ next.progress.target) }
+    ensures target { IfOk result (λ next. next.progress.target ≡ journal.progress.target) }
+    ensures still { journal.progress.time ≡ journal.progress.target → Leads H.meaning Stays host.old host.new }
     ensures run { IfOk result (λ next. (h : History) → IsAt H.meaning h journal host.old
         → IsUpToDate H.meaning h host.old
         → HasPlayed H.meaning (ticks_left journal.progress) h (H.meaning.contents host.old) next host.new
@@ -104,7 +105,6 @@ fn tick_once<H: Host>(
     ensures cause { IfErr result (λ why. NeedsNoCause why ⊎ IsSpoilt H.meaning journal host.old why) }
     ensures ran { RanSession H.meaning KeepsApart host.old host.new result }
 {
-    law_acknowledged();
     let _ = journal.params();
     let ticks = journal.ticks();
     let gone = fill(host, work, &journal)?;
@@ -127,7 +127,7 @@ fn fill<H: Host>(host: &mut H, work: &mut Workspace, journal: &Journal) -> Resul
     requires settled { IsSettled H.meaning work.old.cache host.old }
     ensures settled { OnOk result (IsSettled H.meaning work.new.cache host.new) }
     ensures filled { IfOk result (λ gone. IsTrue H.meaning.tells → (h : History)
-        → Answers h.log journal.now → IsHistory h → RepresentsHistory h (H.meaning.contents host.old)
+        → Answers h.log journal.now → IsHistory h → RepresentsRun h (H.meaning.contents host.old)
         → IsFilled h (H.meaning.contents host.new)
         × (gone ≡ escaped_count (state_of (run_of h) (suc (ticks_of h))))) }
     ensures most { IfOk result (λ gone. gone ≤ journal.now.count) }

@@ -1,8 +1,8 @@
-use Rattle.std.proofs.Common.{rules, ◌≡◌, ◌⊎◌, inl, inr, Err, IsTrue, IsOk, refl, sym, subst, ◌∙◌}
+use Rattle.std.proofs.Common.{rules, ◌≡◌, ◌⊎◌, inl, inr, Err, IsTrue, IsOk, refl, sym, ap, subst, ◌∙◌}
 use Rattle.nb_journal.specs.Counters.{Counters}
 use Rattle.nb_engine.specs.Refusal.{NeedsNoCause, of_host}
-use Rattle.nb_engine.specs.Sessions.{IsNoLeg, IsGoRefused, IsSlotSpoilt}
-use Rattle.nb_engine.proofs.Departures.{can_go, led_there, appended, spoilt_leg, went_on, led_on, no_leg_steady, settled_journal}
+use Rattle.nb_engine.specs.Sessions.{IsNoLeg, IsGoRefused, IsOfLeg, IsBroughtUp, IsSlotSpoilt}
+use Rattle.nb_engine.proofs.Departures.{can_go, led_there, appended, spoilt_leg, went_on, led_on, no_leg_steady, shown_no_leg, free_no_leg, run_no_leg, settled_journal}
 use Rattle.nb_engine.proofs.Frames.{inside, ok_isnt, free_by_host, session_synced, session_then, session_by, session_handed, session_ended, session_host}
 use Rattle.nb_engine.proofs.GoingOn.{go_opened, next_leg}
 use Rattle.nb_engine.proofs.going.go.Goals as goal
@@ -38,7 +38,7 @@ pub returns-then-target-time-clause-done : goal.returns-then-target-time-clause-
 returns-then-target-time-clause-done g c tells h is represents =
     led_there g.H.Host.meaning c.args.target c.in_ok-journal.field-0.journal c.requires.durable c.in_ok-journal.ensures.found
     c.in_ok-journal.ensures.ran.leads c.in_ok-journal.ensures.images c.in_ok-journal.ensures.opened
-    (c.no_leg.ensures.none (search rules)) (c.if-target-time.true ∙ c.time.ensures) c.done_of.ensures.time
+    (c.no_leg.ensures.none (search rules)) c.law_times.ensures.back (c.if-target-time.true ∙ c.time.ensures) c.done_of.ensures.time
     c.done_of.ensures.ticks c.done_of.ensures.gone tells h is represents
 
 pub returns-then-target-time-clause-ready : goal.returns-then-target-time-clause-ready
@@ -140,7 +140,7 @@ returns-clause-done g c tells h is represents =
     c.in_ok-journal.ensures.ran.leads c.in_ok-journal.ensures.images c.in_ok-journal.ensures.opened
     (c.no_leg.ensures.none (search rules)) next c.in_ok-journal-2.ensures.ran.leads c.in_ok-journal-2.ensures.images
     c.in_ok-journal-2.ensures.counters c.in_ok-journal-2.ensures.durable c.in_ok-journal-2.ensures.added
-    (λ same. c.if-target-time.false (same ∙ sym c.time.ensures)) c.in_ok-journal-3.ensures.run
+    c.law_times.ensures.back (λ same. c.if-target-time.false (same ∙ sym c.time.ensures)) c.in_ok-journal-3.ensures.run
     c.in_ok-journal-3.ensures.ended c.done_of-2.ensures.time c.done_of-2.ensures.ticks c.done_of-2.ensures.gone tells h is represents
 
 pub returns-clause-ran : goal.returns-clause-ran
@@ -160,3 +160,74 @@ returns-clause-ran g c =
     c.in_ok-journal-3.ensures.ran.leads c.in_ok-journal-3.ensures.images in
     let first = session_then ok c.open.ensures.ran (session_synced c.append.ensures.ran added) before in
     session_ended (session_then refl first c.run_leg.ensures.ran leads) run ok_isnt
+
+-- ---- it is at the target then
+
+pub returns-then-target-time-clause-there : goal.returns-then-target-time-clause-there
+returns-then-target-time-clause-there g c = c.done_of.ensures.time ∙ sym (c.if-target-time.true ∙ c.time.ensures)
+
+pub returns-clause-there : goal.returns-clause-there
+returns-clause-there g c =
+    c.done_of-2.ensures.time ∙ c.in_ok-journal-3.ensures.ended ∙ c.in_ok-journal-3.ensures.target
+    ∙ ap (λ (k : Counters). k.progress.target) c.in_ok-journal-2.ensures.counters
+
+-- ---- where the leg is refused, and no other cause refuses one
+
+pub returns-in-Some-clause-refused : goal.returns-in-Some-clause-refused
+returns-in-Some-clause-refused g c of_leg =
+    let ok : IsOk c.open.result = search rules in
+    record {
+      durable = c.in_ok-journal.ensures.durable;
+      stands = λ tells h is represents.
+          let has = c.in_ok-journal.ensures.opened tells h is represents in (has.0.at.represents, has.1);
+      synced = λ tells. c.open.ensures.ran.synced tells ok;
+    }
+
+pub returns-in_err-journal-clause-refused : goal.returns-in_err-journal-clause-refused
+returns-in_err-journal-clause-refused g c =
+    let why = c.in_err-journal.field-0.0 in
+    let handed_on : c.from_residual.result ≡ Err why = search rules in
+    let never : IsOfLeg why → IsBroughtUp g.H.Host.meaning c.args.host.now c.open.new.host = λ of_leg.
+    absurd (shown_no_leg why c.in_err-journal.ensures.refusals of_leg) in
+    rw handed_on never
+
+pub returns-in_err-journal-2-clause-refused : goal.returns-in_err-journal-2-clause-refused
+returns-in_err-journal-2-clause-refused g c =
+    let error = c.in_err-journal-2.field-0.0 in
+    let handed_on : c.from_residual-in_err-journal-2.result ≡ Err (of_host error) = search rules in
+    let never : IsOfLeg (of_host error) → IsBroughtUp g.H.Host.meaning c.args.host.now c.append.new.host = λ of_leg.
+    absurd (free_no_leg (of_host error) (free_by_host error) of_leg) in
+    rw handed_on never
+
+pub returns-in_err-journal-3-clause-refused : goal.returns-in_err-journal-3-clause-refused
+returns-in_err-journal-3-clause-refused g c =
+    let why = c.in_err-journal-3.field-0.0 in
+    let handed_on : c.from_residual-in_err-journal-3.result ≡ Err why = search rules in
+    let never : IsOfLeg why → IsBroughtUp g.H.Host.meaning c.args.host.now c.run_leg.new.host = λ of_leg.
+    absurd (run_no_leg why c.in_err-journal-3.ensures.cause of_leg) in
+    rw handed_on never
+
+-- ---- where there is no journal, none is found
+
+pub returns-in_err-journal-clause-unsynced : goal.returns-in_err-journal-clause-unsynced
+returns-in_err-journal-clause-unsynced g c = c.in_err-journal.ensures.unsynced
+
+pub returns-in-Some-clause-unsynced : goal.returns-in-Some-clause-unsynced
+returns-in-Some-clause-unsynced g c tells none =
+    let there = c.in_ok-journal.ensures.found tells in absurd (none there.log there.journal)
+
+pub returns-then-target-time-clause-unsynced : goal.returns-then-target-time-clause-unsynced
+returns-then-target-time-clause-unsynced g c tells none =
+    let there = c.in_ok-journal.ensures.found tells in absurd (none there.log there.journal)
+
+pub returns-in_err-journal-2-clause-unsynced : goal.returns-in_err-journal-2-clause-unsynced
+returns-in_err-journal-2-clause-unsynced g c tells none =
+    let there = c.in_ok-journal.ensures.found tells in absurd (none there.log there.journal)
+
+pub returns-in_err-journal-3-clause-unsynced : goal.returns-in_err-journal-3-clause-unsynced
+returns-in_err-journal-3-clause-unsynced g c tells none =
+    let there = c.in_ok-journal.ensures.found tells in absurd (none there.log there.journal)
+
+pub returns-clause-unsynced : goal.returns-clause-unsynced
+returns-clause-unsynced g c tells none =
+    let there = c.in_ok-journal.ensures.found tells in absurd (none there.log there.journal)

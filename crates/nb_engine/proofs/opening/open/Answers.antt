@@ -63,7 +63,8 @@ returns-in_err-finish-clause-ran g c =
     let before = session_then ok (session_ran c.find_journal.ensures.ran (λ is. is) (λ is. is))
     (session_ran c.is_last_due.ensures.ran (λ is. is) (λ is. is)) stays in
     let leads = open_leads g.H.Host.meaning c.in_ok-journal.journal c.requires.durable c.in_ok-journal.ensures.found
-    c.in_ok-journal.ensures.ran.leads c.in_ok-due.ensures.ran.leads c.in_err-finish.ensures.ran.leads in
+    c.in_ok-journal.ensures.ran.leads c.in_ok-due.ensures.ran.leads c.in_ok-due.due c.in_ok-due.ensures.due
+    c.in_err-finish.ensures.ran.leads c.in_err-finish.ensures.spared in
     rw handed_on (session_handed (session_then due before c.finish.ensures.ran leads) c.in_err-finish.was)
 
 pub returns-clause-ran : goal.returns-clause-ran
@@ -75,5 +76,27 @@ returns-clause-ran g c =
     let before = session_then ok (session_ran c.find_journal.ensures.ran (λ is. is) (λ is. is))
     (session_ran c.is_last_due.ensures.ran (λ is. is) (λ is. is)) stays in
     let leads = open_leads g.H.Host.meaning c.in_ok-journal.journal c.requires.durable c.in_ok-journal.ensures.found
-    c.in_ok-journal.ensures.ran.leads c.in_ok-due.ensures.ran.leads c.in_ok-finish.ensures.ran.leads in
+    c.in_ok-journal.ensures.ran.leads c.in_ok-due.ensures.ran.leads c.in_ok-due.due c.in_ok-due.ensures.due
+    c.in_ok-finish.ensures.ran.leads c.in_ok-finish.ensures.spared in
     session_ended (session_then due before c.finish.ensures.ran leads) finished ok_isnt
+
+-- ---- where there is no journal, none is found
+
+pub returns-in_err-journal-clause-unsynced : goal.returns-in_err-journal-clause-unsynced
+returns-in_err-journal-clause-unsynced g c tells none = c.in_err-journal.ensures.ran.tally
+
+pub returns-in_err-work-clause-unsynced : goal.returns-in_err-work-clause-unsynced
+returns-in_err-work-clause-unsynced g c tells none =
+    let there = c.in_ok-journal.ensures.found tells in absurd (none there.log there.journal)
+
+pub returns-in_err-due-clause-unsynced : goal.returns-in_err-due-clause-unsynced
+returns-in_err-due-clause-unsynced g c tells none =
+    let there = c.in_ok-journal.ensures.found tells in absurd (none there.log there.journal)
+
+pub returns-in_err-finish-clause-unsynced : goal.returns-in_err-finish-clause-unsynced
+returns-in_err-finish-clause-unsynced g c tells none =
+    let there = c.in_ok-journal.ensures.found tells in absurd (none there.log there.journal)
+
+pub returns-clause-unsynced : goal.returns-clause-unsynced
+returns-clause-unsynced g c tells none =
+    let there = c.in_ok-journal.ensures.found tells in absurd (none there.log there.journal)

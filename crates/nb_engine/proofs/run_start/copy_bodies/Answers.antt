@@ -12,9 +12,10 @@ use Rattle.nb_engine.specs.declared.refusal.Refusal.{Refusal}
 use Rattle.nb_engine.specs.Files.{init_file}
 use Rattle.nb_engine.specs.Refusal.{NeedsNoCause, of_order, of_second_reading}
 use Rattle.nb_engine.specs.Snapshots.{IsBroken}
+use Rattle.nb_engine.specs.Start.{IsReadFile}
 use Rattle.nb_engine.proofs.CachedCalls.{went_none, went_on, went_to, ran_reading}
 use Rattle.nb_engine.proofs.Reading.{HasGiven-none, not_ended}
-use Rattle.nb_engine.proofs.SecondReadings.{second_fault, order_is_fault, second_cause, order_cause, page_apart, refused_never, holds_nothing, open_still, seen_still, room_left, copied_more}
+use Rattle.nb_engine.proofs.SecondReadings.{second_fault, order_is_fault, second_cause, order_cause, page_read, refused_never, holds_nothing, open_still, seen_still, room_left, copied_more}
 use Rattle.nb_engine.proofs.Surveys.{room_for, census_given}
 use Rattle.nb_engine.proofs.run_start.copy_bodies.Goals as goal
 
@@ -38,7 +39,7 @@ returns-in-Err-clause-cause g c =
     let file = (m.contents c.args.host.now).file init_file in
     let Holds : List Body → Type 0 = λ bodies. HasRead c.args.reader file []
     × (seen m c.args.cache.now c.args.host.now drifted_file ≡ []) × ((time : ℕ) × IsSnapshot file bodies time) in
-    subst (λ (why : Refusal). NeedsNoCause why ⊎ IsBroken m Holds why) (sym c.second_refusal.ensures)
+    subst (λ (why : Refusal). NeedsNoCause why ⊎ IsBroken m IsReadFile Holds why) (sym c.second_refusal.ensures)
     (second_cause Holds c.in-Err.error c.loop-body.census.count
     (λ by told bodies holds.
     refused_never (c.in-Err.ensures.first file kept.bodies told (kept.given.has told holds.0)
@@ -97,10 +98,10 @@ returns-in_err-push_body-clause-cause g c =
     × (seen m c.args.cache.now c.args.host.now drifted_file ≡ []) × ((time : ℕ) × IsSnapshot file bodies time) in
     let error = c.in_err-push_body.field-0.0 in
     let handed_on : c.from_residual.result ≡ Err (of_order error) = search rules in
-    let cause : NeedsNoCause (of_order error) ⊎ IsBroken m Holds (of_order error) =
+    let cause : NeedsNoCause (of_order error) ⊎ IsBroken m IsReadFile Holds (of_order error) =
     order_cause Holds error (λ name is.
     let bad = c.push_body.ensures.damaged name (c.in_err-push_body.was ∙ ap Err is) in (
-      page_apart c.loop-body.census.count bad.page,
+      page_read c.loop-body.census.count bad.page,
       λ told bodies holds. room_left kept c.next.ensures.ran.leads bad told holds.1,
     )) in
     rw handed_on cause

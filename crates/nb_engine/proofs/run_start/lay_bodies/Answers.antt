@@ -1,16 +1,16 @@
-use Rattle.std.proofs.Common.{◌≡◌, ◌≢◌, ◌⊎◌, inl, inr, List, [], ◌∷◌, Err, refl, sym, ap, ◌∙◌, arith, rules}
+use Rattle.std.proofs.Common.{◌≡◌, ◌⊎◌, inl, inr, List, [], ◌∷◌, Err, refl, sym, ap, ◌∙◌, arith, rules}
 use Rattle.nb_model.specs.declared.body.Body.{Body}
 use Rattle.nb_cache.proofs.Callers.{ran_more}
 use Rattle.nb_record.proofs.Callers.{different_ids}
 use Rattle.nb_tick.specs.Slots.{slot_of, drifted_file}
-use Rattle.nb_journal.specs.Offsets.{journal_file}
 use Rattle.nb_engine.specs.declared.init_file.Census.{Census}
 use Rattle.nb_engine.specs.Files.{init_file}
 use Rattle.nb_engine.specs.Reading.{IsPlanned}
 use Rattle.nb_engine.specs.Refusal.{NeedsNoCause, of_cache, of_order}
 use Rattle.nb_engine.specs.Snapshots.{IsBroken}
+use Rattle.nb_engine.specs.Start.{IsReadFile}
 use Rattle.nb_engine.proofs.CachedCalls.{went_none, went_on, went_to, went_as, among_none, among_of}
-use Rattle.nb_engine.proofs.SecondReadings.{order_is_fault, cache_is_fault, order_cause}
+use Rattle.nb_engine.proofs.SecondReadings.{order_is_fault, cache_is_fault, order_cause, drifted_read, slot_read}
 use Rattle.nb_engine.proofs.run_start.lay_bodies.Goals as goal
 
 pub returns-in_err-read_again-clause-ran : goal.returns-in_err-read_again-clause-ran
@@ -29,14 +29,14 @@ returns-in_err-reorder-clause-cause g c =
     let to_is : c.file.result ≡ slot_of 0 = c.file.ensures ∙ c.of.ensures in
     let error = c.in_err-reorder.field-0.0 in
     let handed_on : c.from_residual-in_err-reorder.result ≡ Err (of_order error) = search rules in
-    let cause : NeedsNoCause (of_order error) ⊎ IsBroken m Holds (of_order error) =
+    let cause : NeedsNoCause (of_order error) ⊎ IsBroken m IsReadFile Holds (of_order error) =
     order_cause Holds error (λ name is.
     let bad = c.reorder.ensures.damaged name (c.in_err-reorder.was ∙ ap Err is) in
-    let apart : name.file ≢ journal_file = λ same. elim bad.file [
-      | inl from ↦ absurd (omega (arith, same, from))
-      | inr to ↦ absurd (omega (arith, same, to, to_is))
+    let read : IsReadFile name.file = elim bad.file [
+      | inl from ↦ drifted_read from
+      | inr to ↦ slot_read (to ∙ to_is)
     ] in (
-      apart,
+      read,
       λ told bodies planned.
           bad.listed told bodies (c.in_ok-read_again.ensures.read told bodies planned)
           (sym (ap (λ (x : Census). x.count) planned.census)) (different_ids bodies planned.snapshot.stored.ids),

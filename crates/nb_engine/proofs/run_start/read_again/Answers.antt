@@ -13,6 +13,7 @@ use Rattle.nb_engine.specs.Files.{init_file}
 use Rattle.nb_engine.specs.Reading.{IsPlanned}
 use Rattle.nb_engine.specs.Refusal.{NeedsNoCause}
 use Rattle.nb_engine.specs.Snapshots.{IsBroken}
+use Rattle.nb_engine.specs.Start.{IsReadFile}
 use Rattle.nb_engine.proofs.Beginnings.{header_now}
 use Rattle.nb_engine.proofs.CachedCalls.{went_none, went_on, went_to, went_as, ran_reading}
 use Rattle.nb_engine.proofs.SecondReadings.{init_broken, cause_more, read_only_none, read_only_kept, init_stays, init_again, seen_still, same_count, same_time, read_same, census_same, censuses_differ}
@@ -29,7 +30,7 @@ returns-in_err-reader-clause-cause g c =
     × IsSnapshot ((m.contents c.empty.new.host).file init_file) bodies time in
     let More : List Body → Type 0 = λ bodies. IsPlanned c.args.plan.now bodies ((m.contents c.args.host.now).file init_file) in
     let handed_on : c.from_residual-in_err-reader.result ≡ Err why = search rules in
-    let cause : NeedsNoCause why ⊎ IsBroken m More why = cause_more Few More c.in_err-reader.ensures.cause (λ told bodies planned.
+    let cause : NeedsNoCause why ⊎ IsBroken m IsReadFile More why = cause_more Few More c.in_err-reader.ensures.cause (λ told bodies planned.
     let same = init_stays (read_only_none c.args.cache.now c.requires.written) c.empty.ensures.ran.writes told in
     (c.args.plan.now.time, subst (λ (file : List ℕ). IsSnapshot file bodies c.args.plan.now.time) (sym same) planned.snapshot)) in
     rw handed_on cause
@@ -53,7 +54,7 @@ returns-then-count-plan-clause-cause g c =
           let fits : time_of reader < 2 ^ 64 = subst (λ (n : ℕ). n < 2 ^ 64) w.time.ensures w.time.type_inv in
           absurd (w.if-time-plan.true (w.time.ensures ∙ same_time fits few read there))
     ] in
-    subst (λ (why : Refusal). NeedsNoCause why ⊎ IsBroken m Holds why) (sym c.damaged_init.ensures)
+    subst (λ (why : Refusal). NeedsNoCause why ⊎ IsBroken m IsReadFile Holds why) (sym c.damaged_init.ensures)
     (inr (init_broken Holds 0 never))
 
 -- Where its bodies are copied.
@@ -73,7 +74,7 @@ returns-in_err-census-clause-cause g c =
     let More : List Body → Type 0 = λ bodies. IsPlanned plan bodies ((m.contents c.args.host.now).file init_file) in
     let reads = c.begin_again.ensures.ran.leads in
     let handed_on : c.from_residual-in_err-census.result ≡ Err why = search rules in
-    let cause : NeedsNoCause why ⊎ IsBroken m More why = cause_more Few More c.in_err-census.ensures.cause (λ told bodies planned.
+    let cause : NeedsNoCause why ⊎ IsBroken m IsReadFile More why = cause_more Few More c.in_err-census.ensures.cause (λ told bodies planned.
     let same = init_again (read_only_none c.args.cache.now c.requires.written) c.empty.ensures.ran.writes reads told in (
       header_now (stays_contents reads) (c.in_ok-reader.ensures.header told),
       seen_still c.empty.new.self drifted_file reads ∙ c.in_ok-empty.ensures.view told,
@@ -104,7 +105,7 @@ returns-then-ne-clause-cause g c =
     (header_now (stays_contents reads) (c.in_ok-reader.ensures.header told))
     (seen_still c.empty.new.self drifted_file reads ∙ c.in_ok-empty.ensures.view told) in
     censuses_differ c.in_ok-census.census plan.census (census_same same planned copied.2 copied.1) c.if-ne.ensures in
-    subst (λ (why : Refusal). NeedsNoCause why ⊎ IsBroken m Holds why) (sym c.damaged_init-then-ne.ensures)
+    subst (λ (why : Refusal). NeedsNoCause why ⊎ IsBroken m IsReadFile Holds why) (sym c.damaged_init-then-ne.ensures)
     (inr (init_broken Holds 0 never))
 
 pub returns-then-ne-clause-ran : goal.returns-then-ne-clause-ran

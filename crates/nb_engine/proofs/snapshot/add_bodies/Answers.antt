@@ -2,6 +2,7 @@ use Rattle.std.proofs.Common.{◌≡◌, ◌⊎◌, true, inr, Err, List, [], �
 use Rattle.nb_model.specs.declared.body.Body.{Body}
 use Rattle.nb_cache.specs.View.{seen}
 use Rattle.nb_tick.specs.Slots.{sorted_file}
+use Rattle.nb_engine.specs.Files.{IsPagedFile}
 use Rattle.nb_engine.specs.Refusal.{of_host, of_order, NeedsNoCause}
 use Rattle.nb_engine.specs.Snapshots.{HoldsByIds, IsBroken}
 use Rattle.nb_engine.proofs.Frames.{session_ran, session_cached, session_by, session_ended}
@@ -28,9 +29,9 @@ returns-in_err-body-clause-cause g c =
     let error = c.in_err-body.field-0.0 in
     let Holds = λ (bodies : List Body). HoldsByIds c.args.count bodies (seen m c.args.cache.now c.args.host.now sorted_file) in
     let handed_on : c.from_residual.result ≡ Err (of_order error) = search rules in
-    let why : NeedsNoCause (of_order error) ⊎ IsBroken m Holds (of_order error) =
+    let why : NeedsNoCause (of_order error) ⊎ IsBroken m IsPagedFile Holds (of_order error) =
     order_cause error (λ name is.
-    subst (IsBroken m Holds) (sym (ap of_order is))
+    subst (IsBroken m IsPagedFile Holds) (sym (ap of_order is))
     (no_body c.loop-index.invariant c.loop-index-test.true name (c.body_at.ensures.damaged name (c.in_err-body.was ∙ ap Err is)))) in
     rw handed_on why
 

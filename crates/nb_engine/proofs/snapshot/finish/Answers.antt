@@ -1,13 +1,14 @@
-use Rattle.std.proofs.Common.{◌≡◌, ◌⊎◌, Err, refl, sym, ap, ◌∙◌, rules}
+use Rattle.std.proofs.Common.{◌≡◌, ◌⊎◌, inl, inr, Err, refl, sym, ap, ◌∙◌, rules}
 use Rattle.std.proofs.lemmas.Bool.{false≢true}
 use Rattle.std.proofs.lemmas.Result.{on_ok_weaker, IfErr-weaker}
 use Rattle.nb_host.proofs.Callers.{leads_none}
+use Rattle.nb_engine.specs.Files.{IsPagedFile}
 use Rattle.nb_engine.specs.Refusal.{NeedsNoCause, of_host}
 use Rattle.nb_engine.specs.Represents.{snap_of}
 use Rattle.nb_engine.specs.Snapshots.{snapshot_files, IsBroken}
 use Rattle.nb_engine.specs.Steps.{IsSpoilt}
 use Rattle.nb_engine.proofs.Frames.{session_ran, session_by}
-use Rattle.nb_engine.proofs.SnapshotSteps.{host_rose, host_fell, stays_agrees, well_ran, well_then, is_ok, SlotHolds}
+use Rattle.nb_engine.proofs.SnapshotSteps.{host_rose, host_fell, stays_agrees, well_ran, well_then, is_ok, finished_at, SlotHolds}
 use Rattle.nb_engine.proofs.Finishing.{played_none, images_none, complete_undue, complete_found, images_written, played_written, spoilt, on_ok_both}
 use Rattle.nb_engine.proofs.snapshot.finish.Goals as goal
 
@@ -21,10 +22,16 @@ pub returns-then-not-due-clause-images : goal.returns-then-not-due-clause-images
 returns-then-not-due-clause-images g c = λ h tells at.
     images_none at (leads_none g.H.Host.meaning c.args.host.now (λ image. refl))
 
+pub returns-then-not-due-clause-spared : goal.returns-then-not-due-clause-spared
+returns-then-not-due-clause-spared g c = λ tells spared. leads_none g.H.Host.meaning c.args.host.now (λ image. refl)
+
 -- where it can't be looked at
 
 pub returns-in_err-snap_finished-clause-images : goal.returns-in_err-snap_finished-clause-images
 returns-in_err-snap_finished-clause-images g c = λ h tells at. images_none at c.snap_finished.ensures.ran.leads
+
+pub returns-in_err-snap_finished-clause-spared : goal.returns-in_err-snap_finished-clause-spared
+returns-in_err-snap_finished-clause-spared g c = λ tells spared. c.snap_finished.ensures.ran.leads
 
 pub returns-in_err-snap_finished-clause-ran : goal.returns-in_err-snap_finished-clause-ran
 returns-in_err-snap_finished-clause-ran g c =
@@ -46,6 +53,9 @@ returns-then-branch-clause-finished g c = λ h tells at. (
 
 pub returns-then-branch-clause-images : goal.returns-then-branch-clause-images
 returns-then-branch-clause-images g c = λ h tells at. images_none at c.snap_finished.ensures.ran.leads
+
+pub returns-then-branch-clause-spared : goal.returns-then-branch-clause-spared
+returns-then-branch-clause-spared g c = λ tells spared. c.snap_finished.ensures.ran.leads
 
 pub returns-then-branch-clause-ran : goal.returns-then-branch-clause-ran
 returns-then-branch-clause-ran g c =
@@ -73,12 +83,22 @@ returns-clause-images g c = λ h tells at.
     absurd (false≢true (sym c.if-branch.false ∙ (c.in_ok-snap_finished.ensures.finished told).1 finished)))
     c.write_snapshot.ensures.images
 
+pub returns-clause-spared : goal.returns-clause-spared
+returns-clause-spared g c = λ tells spared.
+    let file = (g.H.Host.meaning.contents c.args.host.now).file in
+    let number = c.snapshot_file-file.ensures.number ∙ ap snap_of c.ticks.ensures in
+    elim spared [
+      | inl undue ↦ absurd (undue c.if-not-due.false)
+      | inr finished ↦ absurd (false≢true (sym c.if-branch.false ∙ (c.in_ok-snap_finished.ensures.finished tells).1
+          (finished_at file number c.count.ensures finished)))
+    ]
+
 pub returns-clause-cause : goal.returns-clause-cause
 returns-clause-cause g c =
     let m = g.H.Host.meaning in
     let journal = c.args.journal.now in
     IfErr-weaker c.write_snapshot.result
-    (λ why. NeedsNoCause why ⊎ IsBroken m (SlotHolds m journal c.snap_finished.new.host) why)
+    (λ why. NeedsNoCause why ⊎ IsBroken m IsPagedFile (SlotHolds m journal c.snap_finished.new.host) why)
     (λ why. NeedsNoCause why ⊎ IsSpoilt m journal c.args.host.now why)
     (spoilt c.snap_finished.ensures.ran.leads) c.write_snapshot.ensures.cause
 

@@ -1,6 +1,7 @@
 use Rattle.std.proofs.Common.{◌≡◌, ◌⊎◌, Err, sym, ap, subst, ◌∙◌, rules}
 use Rattle.nb_format.specs.Writer.{plan_of, fresh_plan}
 use Rattle.nb_tick.specs.Slots.{slot_of}
+use Rattle.nb_engine.specs.Files.{IsPagedFile}
 use Rattle.nb_engine.specs.Refusal.{of_host, of_order, NeedsNoCause}
 use Rattle.nb_engine.specs.Snapshots.{snapshot_files, IsBroken}
 use Rattle.nb_engine.proofs.Frames.{session_syncing, session_cached, session_by}
@@ -23,9 +24,9 @@ returns-in_err-reorder-clause-cause g c =
     let error = c.in_err-reorder.field-0.0 in
     let Holds = SlotHolds m journal c.args.host.now in
     let handed_on : c.from_residual.result ≡ Err (of_order error) = search rules in
-    let why : NeedsNoCause (of_order error) ⊎ IsBroken m Holds (of_order error) =
+    let why : NeedsNoCause (of_order error) ⊎ IsBroken m IsPagedFile Holds (of_order error) =
     order_cause error (λ name is.
-    subst (IsBroken m Holds) (sym (ap of_order is))
+    subst (IsBroken m IsPagedFile Holds) (sym (ap of_order is))
     (unordered journal slot c.count-count.ensures c.requires name
     (c.reorder.ensures.damaged name (c.in_err-reorder.was ∙ ap Err is)))) in
     rw handed_on why
@@ -71,7 +72,7 @@ returns-in_err-filling-clause-ran g c =
     well_then sorted is_ok
     (session_by
     (session_syncing c.begin.ensures.ran (host_rose error c.in_err-filling.was handed_on)
-    (host_fell error c.in_err-filling.was handed_on))
+    (host_fell error c.in_err-filling.was handed_on) (λ ok. search rules))
     (file_agrees files (plan_among journal plan) c.begin.ensures.ran.leads))
 
 -- where its bodies can't be added
@@ -118,7 +119,7 @@ returns-in_err-filling-2-clause-cause g c =
     let error = c.in_err-filling-2.field-0.0 in
     let Holds = SlotHolds m journal c.args.host.now in
     let handed_on : c.from_residual-in_err-filling-2.result ≡ Err error = search rules in
-    let why : NeedsNoCause error ⊎ IsBroken m Holds error =
+    let why : NeedsNoCause error ⊎ IsBroken m IsPagedFile Holds error =
     broken_slot c.count-count.ensures start error c.in_err-filling-2.ensures.cause in
     rw handed_on why
 
@@ -184,7 +185,7 @@ returns-in_err-close-clause-ran g c =
     well_then added (search rules)
     (session_by
     (session_syncing c.close.ensures.ran (host_rose error c.in_err-close.was handed_on)
-    (host_fell error c.in_err-close.was handed_on))
+    (host_fell error c.in_err-close.was handed_on) (λ ok. search rules))
     (file_agrees files (plan_among journal full) c.close.ensures.ran.leads))
 
 -- where it is

@@ -2,7 +2,7 @@ use Rattle.std.proofs.Common.{◌≡◌, ℕ, ◌+◌, ◌<◌, IsOk, Err, sym, 
 use Rattle.nb_engine.specs.Frame.{KeepsApart, RanSession}
 use Rattle.nb_engine.specs.Sessions.{ticks_left}
 use Rattle.nb_engine.specs.Steps.{played, HasPlayed, IsUpToDate}
-use Rattle.nb_engine.proofs.Running.{run_none, run_then, run_images, run_more, images_within}
+use Rattle.nb_engine.proofs.Running.{run_none, run_then, run_images, run_more, images_within, left_none}
 use Rattle.nb_engine.proofs.ticking.run_leg.Goals as goal
 
 pub loop-init : goal.loop-init
@@ -26,6 +26,21 @@ loop-preserved g c =
     let does = c.in_ok-journal.ensures in
     run_more c.loop.counter c.loop.invariant some ok does.settled
     (record { lasts = does.durable; counters = does.counters; one = does.ticked; next_state = does.next }) does.images c.step.ensures.ran
+
+pub returns-clause-target : goal.returns-clause-target
+returns-clause-target g c = c.loop.invariant.target
+
+pub returns-in_err-journal-clause-still : goal.returns-in_err-journal-clause-still
+returns-in_err-journal-clause-still g c = λ ended.
+    let none = left_none c.args.journal ended in
+    let some : c.loop.counter < ticks_left c.args.journal.progress = omega arith in
+    absurd (omega (arith, none, some))
+
+pub returns-clause-still : goal.returns-clause-still
+returns-clause-still g c = λ ended.
+    let none = left_none c.args.journal ended in
+    let all : c.loop.counter ≡ ticks_left c.args.journal.progress = omega arith in
+    c.loop.invariant.still (all ∙ none)
 
 pub returns-clause-run : goal.returns-clause-run
 returns-clause-run g c = λ h at up.

@@ -1,13 +1,14 @@
-use Rattle.std.proofs.Common.{◌≡◌, ◌⊎◌, ◌+◌, inl, suc, Err, Ok, Result, refl, sym, ap, ◌∙◌, arith, rules}
+use Rattle.std.proofs.Common.{◌≡◌, ◌⊎◌, ◌+◌, inl, suc, Err, Ok, Result, refl, sym, ap, subst, ◌∙◌, arith, rules}
 use Rattle.nb_journal.specs.declared.entry.Entry.TheVariants.{Tick}
 use Rattle.nb_journal.specs.Counters.{counters_after}
+use Rattle.nb_engine.specs.Files.{IsPagedFile}
 use Rattle.nb_engine.specs.Frame.{KeepsApart, RanSession}
 use Rattle.nb_engine.specs.declared.refusal.Refusal.{Refusal}
 use Rattle.nb_engine.specs.Refusal.{NeedsNoCause, of_host}
 use Rattle.nb_engine.specs.Steps.{IsSpoilt}
 use Rattle.nb_host.specs.declared.host.Channel.TheVariants as channels
 use Rattle.nb_engine.proofs.EachImages.{durable_said}
-use Rattle.nb_engine.proofs.Filling.{host_handed, ok_handed, host_cause, slot_no_journal}
+use Rattle.nb_engine.proofs.Filling.{host_handed, ok_handed, host_cause, slot_paged}
 use Rattle.nb_engine.proofs.TickImages.{filled_images, entry_images, line_images, played_one, state_after, fewer_spoilt, settled_entry, settled_line, fill_frame, same_frame, entry_frame, line_frame, fewer_frame}
 use Rattle.nb_engine.proofs.ticking.tick_once.Goals as goal
 
@@ -42,7 +43,7 @@ pub returns-then-gone-clause-cause : goal.returns-then-gone-clause-cause
 returns-then-gone-clause-cause g c =
     fewer_spoilt g.H.Host.meaning c.args.journal c.args.host.now c.fill.new.host c.in_ok-gone.gone c.gone.result
     (record { file = c.file.result; page = 0 })
-    (λ same. slot_no_journal c.of.result (sym c.file.ensures ∙ same)) c.gone.ensures c.if-gone.true c.in_ok-gone.ensures.next
+    (subst IsPagedFile (sym c.file.ensures) (slot_paged c.of.result)) c.gone.ensures c.if-gone.true c.in_ok-gone.ensures.next
 
 pub returns-then-gone-clause-ran : goal.returns-then-gone-clause-ran
 returns-then-gone-clause-ran g c =
@@ -68,7 +69,7 @@ returns-in_err-next-clause-ran g c =
     let error = c.in_err-next.field-0.0 in
     let handed_on : c.from_residual-in_err-next.result ≡ Err (of_host error) = search rules in
     entry_frame c.args.journal.progress.ticks (search rules) c.fill.ensures.ran c.append.ensures.ran
-    (host_handed error c.in_err-next.was handed_on)
+    (host_handed error c.in_err-next.was handed_on) (λ ok. search rules)
 
 -- Where the line was refused.
 
@@ -78,9 +79,8 @@ returns-in_err-say-clause-images g c = λ h at up.
     c.in_ok-gone.gone c.ticks-ticks.result c.ticks-ticks.ensures c.in_ok-gone.ensures.filled
     c.append.new.host c.append.ensures.images c.in_ok-next.ensures.added c.in_ok-next.ensures.durable c.append.ensures.ran.leads
     c.in_ok-next.next c.in_ok-next.ensures.counters
-    c.law_acknowledged.ensures.line c.time.result c.time.ensures c.bytes.result.now
-    (c.bytes.ensures.value ∙ c.tick_line-line.ensures) (omega (arith, c.params.ensures.reach.ticks, c.ticks-ticks.ensures)) (omega arith)
-    (omega (arith, c.params.ensures.reach.count, c.in_ok-gone.ensures.most))
+    c.time.result c.time.ensures c.bytes.result.now
+    (c.bytes.ensures.value ∙ c.tick_line-line.ensures)
     c.say.new.self c.say.ensures.spoke.leads
 
 pub returns-in_err-say-clause-cause : goal.returns-in_err-say-clause-cause
@@ -97,7 +97,8 @@ returns-in_err-say-clause-ran g c =
     let handed_on : c.from_residual-in_err-say.result ≡ Err (of_host error) = search rules in
     let fine : Result (Unit {0}) Refusal = Ok tt in
     let before : RanSession g.H.Host.meaning KeepsApart c.args.host.now c.append.new.host fine =
-    entry_frame c.args.journal.progress.ticks (search rules) c.fill.ensures.ran c.append.ensures.ran (ok_handed (search rules) refl) in
+    entry_frame c.args.journal.progress.ticks (search rules) c.fill.ensures.ran c.append.ensures.ran (ok_handed (search rules) refl)
+    (λ _. search rules) in
     line_frame refl before c.say.ensures.spoke (host_handed error c.in_err-say.was handed_on) (λ ok. search rules)
 
 -- Where the tick is done.
@@ -120,9 +121,8 @@ returns-clause-ticked g c = λ h at up.
     c.in_ok-gone.gone c.ticks-ticks.result c.ticks-ticks.ensures c.in_ok-gone.ensures.filled
     c.append.new.host c.append.ensures.images c.in_ok-next.ensures.added c.in_ok-next.ensures.durable c.append.ensures.ran.leads
     c.in_ok-next.next c.in_ok-next.ensures.counters
-    c.law_acknowledged.ensures.line c.time.result c.time.ensures c.bytes.result.now
-    (c.bytes.ensures.value ∙ c.tick_line-line.ensures) (omega (arith, c.params.ensures.reach.ticks, c.ticks-ticks.ensures)) (omega arith)
-    (omega (arith, c.params.ensures.reach.count, c.in_ok-gone.ensures.most))
+    c.time.result c.time.ensures c.bytes.result.now
+    (c.bytes.ensures.value ∙ c.tick_line-line.ensures)
     c.say.new.self c.say.ensures.spoke.leads c.in_ok-say.ensures.spoke.said
 
 pub returns-clause-next : goal.returns-clause-next
@@ -141,16 +141,16 @@ returns-clause-images g c = λ h at up.
     c.in_ok-gone.gone c.ticks-ticks.result c.ticks-ticks.ensures c.in_ok-gone.ensures.filled
     c.append.new.host c.append.ensures.images c.in_ok-next.ensures.added c.in_ok-next.ensures.durable c.append.ensures.ran.leads
     c.in_ok-next.next c.in_ok-next.ensures.counters
-    c.law_acknowledged.ensures.line c.time.result c.time.ensures c.bytes.result.now
-    (c.bytes.ensures.value ∙ c.tick_line-line.ensures) (omega (arith, c.params.ensures.reach.ticks, c.ticks-ticks.ensures)) (omega arith)
-    (omega (arith, c.params.ensures.reach.count, c.in_ok-gone.ensures.most))
+    c.time.result c.time.ensures c.bytes.result.now
+    (c.bytes.ensures.value ∙ c.tick_line-line.ensures)
     c.say.new.self c.say.ensures.spoke.leads
 
 pub returns-clause-ran : goal.returns-clause-ran
 returns-clause-ran g c =
     let fine : Result (Unit {0}) Refusal = Ok tt in
     let before : RanSession g.H.Host.meaning KeepsApart c.args.host.now c.append.new.host fine =
-    entry_frame c.args.journal.progress.ticks (search rules) c.fill.ensures.ran c.append.ensures.ran (ok_handed (search rules) refl) in
+    entry_frame c.args.journal.progress.ticks (search rules) c.fill.ensures.ran c.append.ensures.ran (ok_handed (search rules) refl)
+    (λ _. search rules) in
     line_frame refl before c.say.ensures.spoke (ok_handed (search rules) (search rules)) (λ ok. search rules)
 
 pub returns-clause-durable : goal.returns-clause-durable
