@@ -16,66 +16,15 @@ use Rattle.nb_cli.specs.declared.stop.Stop.{Stop}
 use Rattle.nb_cli.specs.declared.stop.Stop.TheVariants as stop
 use Rattle.nb_cli.specs.declared.words.Job.{Job}
 use Rattle.nb_cli.specs.declared.words.Job.TheVariants as job
-use Rattle.nb_cli.specs.Words.{IsJob, IsWithNumber}
+use Rattle.nb_cli.specs.Words.{IsJob}
 use Rattle.nb_engine.specs.Start.{Start, HasStart, IsNoStart, IsStartReady, IsStartRefused, IsOfStart}
 use Rattle.nb_cli.specs.Stop.{IsGiven}
 use Rattle.nb_cli.specs.Once.{IsReady, IsRefused}
+use Rattle.nb_cli.specs.Make.{CanMake, IsThere, IsOfMake}
+use Rattle.nb_cli.proofs.Commands.{one_job}
 use Rattle.nb_cli.specs.Answer.{IsJobReady, IsJobRefused, IsJobSpoilt, HasCause}
 
--- ---- the words are one command only
-
--- the second letter of a command
-abbrev letter_of : Job → ℕ
-letter_of (job.Start pages) = 116
-letter_of (job.Go target pace) = 111
-letter_of (job.Resume pace) = 101
-letter_of job.Show = 104
-letter_of (job.Once target) = 110
-
-abbrev letter_in : List (List ℕ) → ℕ
-letter_in words = get_or (get_or words 0 []) 1 0
-
-letter_is : (words : List (List ℕ)) (a : Job) → IsJob words a → letter_in words ≡ letter_of a
-letter_is words (job.Start pages) is = ap letter_in is.0
-letter_is words (job.Go target pace) is = ap letter_in is.0.1
-letter_is words (job.Resume pace) is = ap letter_in is.0
-letter_is words job.Show is = ap letter_in is
-letter_is words (job.Once target) is = ap letter_in is.1
-
-same_number : {words : List (List ℕ)} {command : List ℕ} {a b : ℕ} → IsWithNumber words command a → IsWithNumber words command b
-    → a ≡ b
-same_number first second = let p = first.1 in let q = second.1 in let r = first.2 in let s = second.2 in cc
-
-by_letter : (words : List (List ℕ)) (a b : Job) → IsJob words a → IsJob words b → letter_of a ≡ letter_of b → a ≡ b
-by_letter words (job.Start pages) (job.Start pages2) first second same = ap job.Start (first.1 ∙ sym second.1)
-by_letter words (job.Start pages) (job.Go target2 pace2) first second same = absurd (omega (arith, same))
-by_letter words (job.Start pages) (job.Resume pace2) first second same = absurd (omega (arith, same))
-by_letter words (job.Start pages) job.Show first second same = absurd (omega (arith, same))
-by_letter words (job.Start pages) (job.Once target2) first second same = absurd (omega (arith, same))
-by_letter words (job.Go target pace) (job.Start pages2) first second same = absurd (omega (arith, same))
-by_letter words (job.Go target pace) (job.Go target2 pace2) first second same = ap (λ (t : ℕ). job.Go t pace) (same_number first.0 second.0) ∙ ap (job.Go target2) (first.1 ∙ sym second.1)
-by_letter words (job.Go target pace) (job.Resume pace2) first second same = absurd (omega (arith, same))
-by_letter words (job.Go target pace) job.Show first second same = absurd (omega (arith, same))
-by_letter words (job.Go target pace) (job.Once target2) first second same = absurd (omega (arith, same))
-by_letter words (job.Resume pace) (job.Start pages2) first second same = absurd (omega (arith, same))
-by_letter words (job.Resume pace) (job.Go target2 pace2) first second same = absurd (omega (arith, same))
-by_letter words (job.Resume pace) (job.Resume pace2) first second same = ap job.Resume (first.1 ∙ sym second.1)
-by_letter words (job.Resume pace) job.Show first second same = absurd (omega (arith, same))
-by_letter words (job.Resume pace) (job.Once target2) first second same = absurd (omega (arith, same))
-by_letter words job.Show (job.Start pages2) first second same = absurd (omega (arith, same))
-by_letter words job.Show (job.Go target2 pace2) first second same = absurd (omega (arith, same))
-by_letter words job.Show (job.Resume pace2) first second same = absurd (omega (arith, same))
-by_letter words job.Show job.Show first second same = refl
-by_letter words job.Show (job.Once target2) first second same = absurd (omega (arith, same))
-by_letter words (job.Once target) (job.Start pages2) first second same = absurd (omega (arith, same))
-by_letter words (job.Once target) (job.Go target2 pace2) first second same = absurd (omega (arith, same))
-by_letter words (job.Once target) (job.Resume pace2) first second same = absurd (omega (arith, same))
-by_letter words (job.Once target) job.Show first second same = absurd (omega (arith, same))
-by_letter words (job.Once target) (job.Once target2) first second same = ap job.Once (same_number first second)
-
-pub one_job : (words : List (List ℕ)) (a b : Job) → IsJob words a → IsJob words b → a ≡ b
-one_job words a b first second =
-    by_letter words a b first second (sym (letter_is words a first) ∙ letter_is words b second)
+-- ---- a start
 
 same_start : (a b : Start) → a.params ≡ b.params → a.bodies ≡ b.bodies → a.time ≡ b.time → a ≡ b
 same_start a b params bodies time =
@@ -124,13 +73,20 @@ not_gone files target {why = why} can (inr none) =
     let same = one_journal none.0 can.0 (files journal_file) none.1 can.1 in
     can.2 why (subst (λ (l : Log). IsNoLeg target (progress_of l) why) same none.2)
 
--- Where a command can be done it isn't refused.
+-- Where `make` can be done neither file holds anything.
+not_there : {files : ℕ → List ℕ} {why : Refusal} → CanMake files → IsThere files why → ⊥
+not_there can there = elim there.some [
+  | inl params ↦ params can.params
+  | inr init ↦ init can.init
+]
+
 pub not_refused_job : (files : ℕ → List ℕ) (job : Job) (why : Refusal) → IsJobReady files job → IsJobRefused files job why → ⊥
 not_refused_job files (job.Start pages) why ready refused = not_start ready.1 refused
 not_refused_job files (job.Go target pace) why ready refused = not_gone files target ready refused
 not_refused_job files (job.Resume pace) why ready refused = not_shown ready.0 ready.1 refused
 not_refused_job files (job.Once target) why ready refused = not_refused ready.1 refused
 not_refused_job files job.Show why ready refused = not_shown ready.0 ready.1 refused
+not_refused_job files (job.Make seed count) why ready refused = not_there ready refused
 
 pub no_cause : {words : List (List ℕ)} {files : ℕ → List ℕ} {why : Stop} (job : Job)
     → IsJob words job → IsJobReady files job → HasCause words files why → ⊥
@@ -207,6 +163,7 @@ one_job_refusal files (job.Go target pace) first second = one_go_refusal files t
 one_job_refusal files (job.Resume pace) first second = one_shown first second
 one_job_refusal files (job.Once target) first second = one_refusal first second
 one_job_refusal files job.Show first second = one_shown first second
+one_job_refusal files (job.Make seed count) first second = first.shown ∙ sym second.shown
 
 pub one_cause : {words : List (List ℕ)} {files : ℕ → List ℕ} {a b : Stop} → HasCause words files a → HasCause words files b → a ≡ b
 one_cause (inl first) (inl second) = first.0 ∙ sym second.0
@@ -274,3 +231,9 @@ given_by_resume (refusal.TooMany count) of_resume = absurd of_resume
 given_by_resume refusal.Device of_resume = tt
 given_by_resume (refusal.Damaged place) of_resume = tt
 given_by_resume refusal.NoMemory of_resume = tt
+
+pub given_by_make : (why : Refusal) → IsOfMake why → IsGiven why
+given_by_make refusal.InitThere of_make = tt
+given_by_make refusal.Device of_make = tt
+given_by_make refusal.NoMemory of_make = tt
+given_by_make _ of_make = absurd of_make

@@ -193,7 +193,7 @@ syncs_once more refusal.Device before behind one = omega (arith, one)
 syncs_once more (refusal.Damaged _) before behind one = one
 syncs_once more refusal.NoMemory before behind one = omega (arith, one)
 
-free_or_not : (why : Refusal) → NeedsNoCause why ⊎ (NeedsNoCause why → ⊥)
+pub free_or_not : (why : Refusal) → NeedsNoCause why ⊎ (NeedsNoCause why → ⊥)
 free_or_not refusal.Device = inl (inl refl)
 free_or_not refusal.NoMemory = inl (inr refl)
 free_or_not (refusal.Params e) = inr never where

@@ -1,25 +1,32 @@
 -- A run of `start`, `go` or `resume`, with its line: where it leads, and what it owes to the counts.
-use Rattle.std.proofs.Common.{◌≡◌, ◌≤◌, ◌⊎◌, inl, inr, ℕ, Bool, List, length, refl, ap, sym, subst, ◌∙◌, IsTrue, IsOk, Result, Ok, Err, None, rules}
+use Rattle.std.proofs.Common.{◌≡◌, ◌≤◌, ◌+◌, ◌⊎◌, inl, inr, ℕ, Bool, List, length, refl, ap, sym, subst, ◌∙◌, arith, IsTrue, IsOk, Result, Ok, Err, None, rules}
+use Rattle.std.specs.Prelude.{⊤}
 use Rattle.nb_host.specs.declared.host.Channel.{Channel}
 use Rattle.nb_host.specs.declared.host.Channel.TheVariants as channels
 use Rattle.nb_host.specs.declared.host.HostError.{HostError}
 use Rattle.nb_host.specs.declared.host.HostError.TheVariants.{Fault, NoMemory}
 use Rattle.nb_host.specs.Image.{Image, Says, SaysPart}
-use Rattle.nb_host.specs.Meaning.{HostModel, Leads, Spoke, RanSyncing, IsDurable}
+use Rattle.nb_host.specs.Meaning.{HostModel, Leads, Tally, Spoke, RanSyncing, IsDurable}
 use Rattle.nb_host.proofs.Callers.{goes_on, leads_more, stopped_after, ok_is_no_error}
 use Rattle.nb_engine.specs.declared.going.Pace.{Pace}
 use Rattle.nb_engine.specs.declared.refusal.Refusal.{Refusal}
 use Rattle.nb_engine.specs.declared.refusal.Refusal.TheVariants as refusal
 use Rattle.nb_engine.specs.Frame.{RanSession}
 use Rattle.nb_engine.proofs.Callers.{leads_from_durable}
-use Rattle.nb_engine.specs.Refusal.{of_host}
-use Rattle.nb_engine.specs.Sessions.{GoLeads, ResumeLeads}
+use Rattle.nb_engine.specs.Refusal.{of_host, NeedsNoCause}
+use Rattle.nb_engine.specs.Sessions.{GoLeads, ResumeLeads, IsNoLeg, IsOfLeg, IsGoRefused, IsSlotSpoilt}
+use Rattle.nb_engine.specs.Shown.{IsNotShown}
 use Rattle.nb_engine.specs.declared.run_start.Begun.{Begun}
 use Rattle.nb_engine.specs.Start.{Start, StartLeads, TellsStart}
 use Rattle.nb_format.specs.Lines.{started_line}
+use Rattle.nb_journal.specs.Entries.{Progress}
+use Rattle.nb_journal.specs.Form.{Log, IsJournal, progress_of}
+use Rattle.nb_journal.specs.Offsets.{journal_file}
 use Rattle.nb_cli.specs.declared.words.Job.TheVariants as job
-use Rattle.nb_cli.specs.Answer.{HasStarted, HasGone, HasResumed, IsDoneThenTold, LeadsThenTells, JobTouches, CountsRun}
-use Rattle.nb_cli.proofs.Runs.{Out≢Err, said_answer}
+use Rattle.nb_cli.specs.Telling.{HasStarted, HasGone, HasResumed, IsDoneThenTold, LeadsThenTells}
+use Rattle.nb_cli.specs.Answer.{JobTouches, SyncsRun, CountsRun}
+use Rattle.nb_cli.proofs.Causes.{not_shown}
+use Rattle.nb_cli.proofs.Runs.{Out≢Err, said_answer, free_or_not}
 
 -- ---- where it leads
 
@@ -155,6 +162,105 @@ started_told {start = start} {begun = begun} line is tells =
 
 -- ---- what it owes to the counts
 
+-- How often a session syncs that ends so, from behind the first sync on: a refusal of a leg takes none back, a page that is
+-- damaged is the journal's only where there was no sync, and any other refusal by a cause comes before the first.
+abbrev pub SyncsBehind : Refusal → ℕ → ℕ → Type 0
+SyncsBehind refusal.Device before behind = ⊤
+SyncsBehind refusal.NoMemory before behind = ⊤
+SyncsBehind (refusal.LegOpen _ _) before behind = before ≤ behind
+SyncsBehind (refusal.TickLimit _) before behind = before ≤ behind
+SyncsBehind (refusal.Damaged page) before behind = page.file ≡ journal_file → behind ≡ before
+SyncsBehind _ before behind = behind ≡ before
+
+syncs_behind : (why : Refusal) (before middle behind : ℕ) → middle ≡ before + 1 → SyncsBehind why middle behind
+    → SyncsRun None (Err why) before behind
+syncs_behind (refusal.Params _) before middle behind one same = same ∙ one
+syncs_behind (refusal.Snapshot _) before middle behind one same = same ∙ one
+syncs_behind (refusal.TooHeavy _ _) before middle behind one same = same ∙ one
+syncs_behind refusal.NotStarted before middle behind one same = same ∙ one
+syncs_behind refusal.Started before middle behind one same = same ∙ one
+syncs_behind (refusal.LegOpen _ _) before middle behind one more = omega (arith, one, more)
+syncs_behind (refusal.TickLimit _) before middle behind one more = omega (arith, one, more)
+syncs_behind refusal.InitThere before middle behind one same = same ∙ one
+syncs_behind (refusal.TooMany _) before middle behind one same = same ∙ one
+syncs_behind refusal.Device before middle behind one free = tt
+syncs_behind (refusal.Damaged _) before middle behind one same = λ journal. same journal ∙ one
+syncs_behind refusal.NoMemory before middle behind one free = tt
+
+-- no sync was made
+syncs_none : (why : Refusal) (before behind : ℕ) → behind ≡ before → SyncsBehind why before behind
+syncs_none (refusal.Params _) before behind same = same
+syncs_none (refusal.Snapshot _) before behind same = same
+syncs_none (refusal.TooHeavy _ _) before behind same = same
+syncs_none refusal.NotStarted before behind same = same
+syncs_none refusal.Started before behind same = same
+syncs_none (refusal.LegOpen _ _) before behind same = omega (arith, same)
+syncs_none (refusal.TickLimit _) before behind same = omega (arith, same)
+syncs_none refusal.InitThere before behind same = same
+syncs_none (refusal.TooMany _) before behind same = same
+syncs_none refusal.Device before behind same = tt
+syncs_none (refusal.Damaged _) before behind same = λ _. same
+syncs_none refusal.NoMemory before behind same = tt
+
+-- a device fault or want of memory
+syncs_any : (why : Refusal) (before behind : ℕ) → NeedsNoCause why → SyncsBehind why before behind
+syncs_any why before behind (inl is) = subst (λ w. SyncsBehind w before behind) (sym is) tt
+syncs_any why before behind (inr is) = subst (λ w. SyncsBehind w before behind) (sym is) tt
+
+-- the same where the first sync failed, or the line wasn't said
+syncs_host : (error : HostError) (before behind : ℕ) → SyncsRun None (Err (of_host error)) before behind
+syncs_host Fault before behind = tt
+syncs_host NoMemory before behind = tt
+
+syncs_line : (answer : Result (Unit {0}) HostError) (before behind : ℕ) → before + 1 ≤ behind
+    → SyncsRun None (said_answer answer) before behind
+syncs_line (Ok tt) before behind more = more
+syncs_line (Err Fault) before behind more = tt
+syncs_line (Err NoMemory) before behind more = tt
+
+-- `start` syncs before no refusal by a cause
+pub syncs_start : (why : Refusal) (before behind : Tally) → ((NeedsNoCause why → ⊥) → behind ≡ before)
+    → SyncsBehind why before.syncs behind.syncs
+syncs_start why before behind unsynced = elim (free_or_not why) [
+  | inl free ↦ syncs_any why before.syncs behind.syncs free
+  | inr cause ↦ syncs_none why before.syncs behind.syncs (ap (λ (t : Tally). t.syncs) (unsynced cause))
+]
+
+-- a slot that is spoilt is no file of the journal
+syncs_spoilt : (files : ℕ → List ℕ) (why : Refusal) (before behind : ℕ) → IsSlotSpoilt files why → SyncsBehind why before behind
+syncs_spoilt files why before behind spoilt =
+    subst (λ w. SyncsBehind w before behind) (sym spoilt.shown) (λ same. absurd (omega (arith, spoilt.file.0, same)))
+
+pub syncs_resume : (files : ℕ → List ℕ) (why : Refusal) (before behind : Tally)
+    → NeedsNoCause why ⊎ IsNotShown (files journal_file) why ⊎ IsSlotSpoilt files why
+    → (((log : Log) → IsJournal log (files journal_file) → ⊥) → behind ≡ before) → SyncsBehind why before.syncs behind.syncs
+syncs_resume files why before behind (inl free) unsynced = syncs_any why before.syncs behind.syncs free
+syncs_resume files why before behind (inr (inl none)) unsynced =
+    syncs_none why before.syncs behind.syncs (ap (λ (t : Tally). t.syncs) (unsynced (λ log journal. not_shown log journal none)))
+syncs_resume files why before behind (inr (inr spoilt)) unsynced =
+    syncs_spoilt files why before.syncs behind.syncs spoilt
+
+syncs_leg : (target : ℕ) (s : Progress) (why : Refusal) (before behind : ℕ) → IsNoLeg target s why
+    → (IsOfLeg why → before ≤ behind) → SyncsBehind why before behind
+syncs_leg target s why before behind (inl away) more =
+    let leg = subst IsOfLeg (sym away.1) tt in
+    subst (λ w. SyncsBehind w before behind) (sym away.1) (more leg)
+syncs_leg target s why before behind (inr far) more =
+    let leg = subst IsOfLeg (sym far.2) tt in
+    subst (λ w. SyncsBehind w before behind) (sym far.2) (more leg)
+
+pub syncs_go : (target : ℕ) (files : ℕ → List ℕ) (why : Refusal) (before behind : Tally)
+    → NeedsNoCause why ⊎ IsGoRefused target files why ⊎ IsSlotSpoilt files why
+    → (((log : Log) → IsJournal log (files journal_file) → ⊥) → behind ≡ before)
+    → (IsOfLeg why → before.syncs ≤ behind.syncs) → SyncsBehind why before.syncs behind.syncs
+syncs_go target files why before behind (inl free) unsynced more = syncs_any why before.syncs behind.syncs free
+syncs_go target files why before behind (inr (inl (inl none))) unsynced more =
+    syncs_none why before.syncs behind.syncs (ap (λ (t : Tally). t.syncs) (unsynced (λ log journal. not_shown log journal none)))
+syncs_go target files why before behind (inr (inl (inr leg))) unsynced more =
+    syncs_leg target (progress_of leg.0) why before.syncs behind.syncs leg.2 more
+syncs_go target files why before behind (inr (inr spoilt)) unsynced more =
+    syncs_spoilt files why before.syncs behind.syncs spoilt
+
 -- the first sync failed
 pub counts_first : {H T : Type 0} {m : HostModel H} {by : Image → Image → Type 0} {old new : H} {result : Result T HostError}
     {error : HostError} → RanSyncing m 1 Fault by old new result → result ≡ Err error
@@ -165,7 +271,7 @@ counts_first {old = old} {new = new} {error = error} ran is = record {
   spared = λ other. ran.spared (λ err. other (to_device error (sym is ∙ err)));
   refused = λ told. ap (λ (f : Channel → ℕ). f channels.Err) ran.refused;
   heard = λ told ok. absurd (search rules);
-  syncs = λ told. tt;
+  syncs = λ told. syncs_host error _ _;
 } where
   by_device : (error : HostError) → ◌≡◌ {A = Result (Unit {0}) Refusal} (Err (of_host error)) (Err refusal.Device) → error ≡ Fault
   by_device Fault err = refl
@@ -180,8 +286,9 @@ counts_first {old = old} {new = new} {error = error} ran is = record {
 pub counts_session : {H S T : Type 0} {m : HostModel H} {one two : Image → Image → Type 0} {old middle new : H}
     {first : Result S HostError} {result : Result T Refusal} {why : Refusal} → IsOk first
     → RanSyncing m 1 Fault one old middle first → RanSession m two middle new result → result ≡ Err why
+    → (IsTrue m.tells → SyncsBehind why (m.tally middle).syncs (m.tally new).syncs)
     → CountsRun m None old new (Err why)
-counts_session {m = m} {old = old} {middle = middle} {new = new} {why = why} ok before after is =
+counts_session {m = m} {old = old} {middle = middle} {new = new} {why = why} ok before after is syncs =
     let same = before.spared (ok_is_no_error ok) in
     record {
       count = subst (λ n. n ≤ m.faults new) same after.count;
@@ -189,7 +296,7 @@ counts_session {m = m} {old = old} {middle = middle} {new = new} {why = why} ok 
       spared = λ never. after.spared (λ err. never (ap Err (inside (sym is ∙ err)))) ∙ same;
       refused = λ told. after.refused told ∙ ap (λ (f : Channel → ℕ). f channels.Err) before.refused;
       heard = λ told fine. absurd (search rules);
-      syncs = λ told. tt;
+      syncs = λ told. syncs_behind why _ _ _ (before.synced told ok) (syncs told);
     } where
       inside : {T : Type 0} {a b : Refusal} → ◌≡◌ {A = Result T Refusal} (Err a) (Err b) → a ≡ b
       inside same = cc
@@ -209,7 +316,8 @@ counts_line {m = m} {new = new} {answer = answer} ok before after done spoke =
           ∙ after.refused told ∙ ap (λ (f : Channel → ℕ). f channels.Err) before.refused;
       heard = λ told fine. (spoke.refused told).spared (went answer fine)
           ∙ after.heard told done ∙ ap (λ (f : Channel → ℕ). f channels.Out) before.refused;
-      syncs = λ told. tt;
+      syncs = λ told. syncs_line answer _ _
+          (omega (arith, after.synced told done, before.synced told ok, ap (λ (n : ℕ). n) spoke.syncs));
     } where
       device : (answer : Result (Unit {0}) HostError) → said_answer answer ≡ Err refusal.Device → answer ≡ Err Fault
       device (Ok tt) err = cc

@@ -12,8 +12,10 @@ use Rattle.nb_host.proofs.Callers.{every_since}
 use Rattle.nb_model.specs.declared.body.Body.{Body}
 use Rattle.nb_model.specs.Leapfrog.{escaped_count}
 use Rattle.nb_model.specs.Legs.{directions_to}
-use Rattle.nb_model.specs.Limits.{most_ticks}
+use Rattle.nb_model.specs.Limits.{most_bodies, most_ticks}
 use Rattle.nb_format.specs.Digits.{number_of}
+use Rattle.nb_format.specs.Lines.{made_line}
+use Rattle.nb_format.proofs.Snapshots.{snapshot_whole}
 use Rattle.nb_journal.specs.declared.entry.Entry.{Entry}
 use Rattle.nb_journal.specs.declared.entry.Entry.TheVariants.{Leg, Tick}
 use Rattle.nb_journal.specs.Entries.{Progress, AreLawful, toward, progress_after, after_all}
@@ -23,14 +25,17 @@ use Rattle.nb_journal.proofs.Callers.{fresh_alone}
 use Rattle.nb_engine.specs.Acknowledged.{IsToldUpTo, IsOtherText}
 use Rattle.nb_engine.specs.Files.{init_file}
 use Rattle.nb_engine.specs.Histories.{History, run_of, ticks_of, IsHistory}
-use Rattle.nb_engine.specs.Represents.{snap_of, IsSoundImage}
+use Rattle.nb_engine.specs.Represents.{snap_of, RepresentsHistory, IsSoundImage}
 use Rattle.nb_engine.specs.Sessions.{GoLeads, ResumeLeads}
 use Rattle.nb_engine.specs.Start.{Start, started, StartLeads}
 use Rattle.nb_engine.specs.Steps.{played, GoesOn, SaidFrontOf}
-use Rattle.nb_engine.proofs.Callers.{told_other, append_is_other, started_is_other, done_is_other, once_is_other, folder_is_other, params_are_other, spared, represents_kept, history-played, started_history, length-steps}
+use Rattle.nb_engine.proofs.Callers.{LineTellsOne, told_goes, small_log, ticks-legged, told_other, append_is_other, started_is_other, done_is_other, once_is_other, folder_is_other, made_is_other, params_are_other, spared, represents_kept, history-played, started_history, length-steps}
 use Rattle.nb_cli.specs.declared.words.Job.{Job}
 use Rattle.nb_cli.specs.declared.words.Job.TheVariants as job
-use Rattle.nb_cli.specs.Answer.{HasStarted, HasGone, HasResumed, IsPartlyDone, IsJobPartlyDone, LeadsThenTells, Touches}
+use Rattle.nb_cli.specs.Telling.{HasStarted, HasGone, HasResumed, IsDoneThenTold, LeadsThenTells}
+use Rattle.nb_cli.specs.Answer.{IsPartlyDone, IsJobPartlyDone, Touches}
+use Rattle.nb_cli.specs.Make.{IsMakeUnderWay}
+use Rattle.nb_cli.proofs.Commands.{paced, once_fits}
 use Rattle.nb_cli.specs.Once.{once_file, ticks_to as ticks_from, list_at, IsReady}
 use Rattle.nb_cli.specs.Show.{show_text}
 use Rattle.nb_cli.specs.Words.{IsJob}
@@ -48,7 +53,14 @@ sound_same : {old new : Image} → new.file ≡ old.file → new.said channels.O
 sound_same {old = old} {new = new} files said (inl fresh) = fresh_still old new (ap (λ (f : ℕ → List ℕ). f journal_file) files) said fresh
 sound_same {old = old} {new = new} files said (inr run) =
     let at = λ (number : ℕ). ap (λ (f : ℕ → List ℕ). f number) files in
-    inr (run.0, run.1, represents_kept run.0 old new run.2 (at _) (at _) (at _) (λ j some within. at _) said)
+    inr (
+      run.0,
+      run.1,
+      record {
+        run = represents_kept run.0 old new run.2.run (at _) (at _) (at _) (λ j some within. at _);
+        told = subst (IsToldUpTo (ticks_of run.0)) (sym said) run.2.told;
+      },
+    )
 
 -- No file changed but that of `once`, and a front of a text was said that tells of no tick.
 sound_beside : {old new : Image} {text : List ℕ} → IsOtherText text
@@ -64,9 +76,9 @@ sound_beside {old = old} {new = new} {text = text} other files said (inr run) =
       run.0,
       run.1,
       record {
-        files =
-            spared run.0.log (run_of run.0) (ticks_of run.0) old new run.2.files
-            (subst (IsCleanJournal run.0.log) (sym (files journal_file (omega arith))) run.2.files.journal)
+        run =
+            spared run.0.log (run_of run.0) (ticks_of run.0) old new run.2.run
+            (subst (IsCleanJournal run.0.log) (sym (files journal_file (omega arith))) run.2.run.journal)
             (files init_file (omega arith)) (files (3 + ticks_of run.0 % 2) (omega arith))
             (λ j some within. files (snap_of j) (omega arith));
         told = subst (IsToldUpTo (ticks_of run.0)) (sym said.2)
@@ -93,36 +105,47 @@ sound_then sound other then =
       | inr some ↦ sound_said (other then.between some.0 some.1) then.files some.2 before
     ]
 
-sound_goes : {most : ℕ} {h : History} {old new : Image} → IsHistory h → GoesOn most h old new → IsSoundImage new
-sound_goes {h = h} is goes = inr (played goes.done h, history-played goes.done h is, goes.represents)
+sound_goes : LineTellsOne → {most : ℕ} {h : History} {old new : Image} → IsHistory h → IsToldUpTo (ticks_of h) (old.said channels.Out)
+    → GoesOn most h old new → IsSoundImage new
+sound_goes law {h = h} is told goes =
+    inr (played goes.done h, history-played goes.done h is, record { run = goes.represents; told = told_goes law is told goes })
 
 sound_start : {old new : Image} → IsSoundImage old → StartLeads true old new → IsSoundImage new
 sound_start {old = old} {new = new} (inl fresh) leads = elim (leads.begins refl fresh.0) [
   | inl still ↦ inl (still, subst (IsToldUpTo 0) (sym (ap (λ (f : Channel → List ℕ). f channels.Out) leads.others.said)) fresh.1)
-  | inr run ↦ inr (started run.0, started_history old.file run.0 run.1.starts run.1.light, run.2 fresh.1)
+  | inr run ↦ inr (
+    started run.0,
+    started_history old.file run.0 run.1.starts run.1.light,
+    record {
+      run = run.2;
+      told = subst (IsToldUpTo 0) (sym (ap (λ (f : Channel → List ℕ). f channels.Out) leads.others.said)) fresh.1;
+    },
+  )
 ]
 sound_start {old = old} (inr run) leads =
-    let journal = run.2.files.journal.journal in
+    let journal = run.2.run.journal.journal in
     let same = leads.idle (λ start ready. fresh_alone run.0.log 0 (old.file journal_file) ready.fresh (inl journal)) in
     sound_same (ap (λ (i : Image). i.file) same) (ap (λ (i : Image). i.said channels.Out) same) (inr run)
 
 no_journal : (old : Image) → IsFresh (old.file journal_file) → (log : Log) → IsJournal log (old.file journal_file) → ⊥
 no_journal old fresh log journal = fresh_alone log 0 (old.file journal_file) fresh (inl journal)
 
-sound_go : {target : ℕ} {old new : Image} → IsSoundImage old → GoLeads true target old new → IsSoundImage new
-sound_go {old = old} (inl fresh) leads =
+sound_go : LineTellsOne → {target : ℕ} {old new : Image} → IsSoundImage old → GoLeads true target old new → IsSoundImage new
+sound_go law {old = old} (inl fresh) leads =
     let same = leads.session.idle (no_journal old fresh.0) in
     sound_same {old = old} (ap (λ (i : Image). i.file) same) (ap (λ (i : Image). i.said channels.Out) same) (inl fresh)
-sound_go {target = target} (inr run) leads = elim (leads.goes refl run.0 run.1 run.2) [
-  | inl goes ↦ sound_goes run.1 goes
-  | inr goes ↦ sound_goes goes.0 goes.1
+sound_go law {target = target} {old = old} (inr run) leads = elim (leads.goes refl run.0 run.1 run.2.run) [
+  | inl goes ↦ sound_goes law run.1 run.2.told goes
+  | inr goes ↦
+      let here = sym (ticks-legged target run.0) in
+      sound_goes law goes.0 (subst (λ (k : ℕ). IsToldUpTo k (old.said channels.Out)) here run.2.told) goes.1
 ]
 
-sound_resume : {old new : Image} → IsSoundImage old → ResumeLeads true old new → IsSoundImage new
-sound_resume {old = old} (inl fresh) leads =
+sound_resume : LineTellsOne → {old new : Image} → IsSoundImage old → ResumeLeads true old new → IsSoundImage new
+sound_resume law {old = old} (inl fresh) leads =
     let same = leads.session.idle (no_journal old fresh.0) in
     sound_same {old = old} (ap (λ (i : Image). i.file) same) (ap (λ (i : Image). i.said channels.Out) same) (inl fresh)
-sound_resume (inr run) leads = sound_goes run.1 (leads.goes refl run.0 run.1 run.2)
+sound_resume law (inr run) leads = sound_goes law run.1 run.2.told (leads.goes refl run.0 run.1 run.2.run)
 
 -- ---- each command
 
@@ -142,13 +165,6 @@ told_resume did =
     subst IsOtherText (sym did.line_is)
     (done_is_other did.done.time did.done.ticks did.done.gone did.fits.time did.fits.ticks did.fits.gone)
 
--- the number that words spell
-small_number : (text : List ℕ) (target : ℕ) → number_of text ≡ Some target → target < 2 ^ 64
-small_number text target is = grind (arith, nat_tests)
-
-once_fits : (words : List (List ℕ)) (target : ℕ) → IsJob words (job.Once target) → target < 2 ^ 64
-once_fits words target is = small_number is.0 target is.2
-
 sound_once : (target : ℕ) (start : Start) {files : ℕ → List ℕ} {old new : Image} → target < 2 ^ 64 → IsReady files target start
     → IsPartlyDone target start old new → IsSoundImage old → IsSoundImage new
 sound_once target start fits ready partly sound =
@@ -161,70 +177,62 @@ sound_once target start fits ready partly sound =
     (omega (arith, snapshot.fits)) (omega (arith, few, many, snapshot.stored.count)))
     partly.others partly.out sound
 
--- the numbers of a journal
-record IsSmall (count : ℕ) (s : Progress) : Type 0 where
-  time : s.time < 2 ^ 64
-  target : s.target < 2 ^ 64
-  ticks : s.ticks + abs_diff s.time s.target ≤ most_ticks
-  gone : s.gone ≤ count
-
-small_after : (count : ℕ) (s : Progress) (entries : List Entry) → AreLawful count s entries → IsSmall count s
-    → IsSmall count (after_all entries s)
-small_after count s [] lawful small = small
-small_after count s (Leg target ∷ entries) lawful small =
-    small_after count (progress_after (Leg target) s) entries lawful.1
-    (record { time = small.time; target = lawful.0.fits; ticks = lawful.0.limit; gone = small.gone })
-small_after count s (Tick number gone ∷ entries) lawful small =
-    small_after count (progress_after (Tick number gone) s) entries lawful.1 (record {
-      time = toward_small s.time s.target small.time small.target;
-      target = small.target;
-      ticks = toward_ticks s.ticks s.time s.target number lawful.0.leg lawful.0.next small.ticks;
-      gone = lawful.0.no_more;
-    }) where
-      toward_small : (time target : ℕ) → time < 2 ^ 64 → target < 2 ^ 64 → toward time target < 2 ^ 64
-      toward_small time target first second = grind (arith, nat_tests)
-
-      toward_ticks : (ticks time target number : ℕ) → time ≢ target → number ≡ ticks + 1 → ticks + abs_diff time target ≤ most_ticks
-          → number + abs_diff (toward time target) target ≤ most_ticks
-      toward_ticks ticks time target number apart next few = grind (arith, nat_tests)
-
 show_is_other : (log : Log) → IsLawful log → IsOtherText (show_text log)
 show_is_other log lawful =
     let now = progress_of log in
-    let small = small_after log.count (begun log) log.entries lawful.entries
-    (record { time = lawful.time; target = lawful.time; ticks = omega arith; gone = lawful.gone }) in
+    let small = small_log log lawful in
     append_is_other
     (folder_is_other now.time now.ticks now.target log.count now.gone small.time (omega (arith, small.ticks)) small.target
     (omega (arith, lawful.count)) (omega (arith, small.gone, lawful.count)))
     (params_are_other log.params lawful.params)
 
-job_sound : (words : List (List ℕ)) (files : ℕ → List ℕ) (job : Job) {old new : Image} → IsJob words job → IsSoundImage old
+-- ---- `make`
+
+-- Where a run is represented the initial snapshot holds something.
+no_init : {h : History} {image : Image} → RepresentsHistory h image → image.file init_file ≡ [] → ⊥
+no_init {h = h} {image = image} run empty =
+    let long = snapshot_whole run.run.start in
+    let none : length (image.file init_file) ≡ 0 = ap length empty in
+    omega (arith, long, none)
+
+sound_make : {seed count : ℕ} {old new : Image} → count ≤ most_bodies → IsMakeUnderWay seed count old new → IsSoundImage old
+    → IsSoundImage new
+sound_make {count = count} {old = old} few make (inl fresh) =
+    inl (
+      subst IsFresh (sym (make.others journal_file (omega arith) (omega arith))) fresh.0,
+      subst (IsToldUpTo 0) (sym make.out.2)
+          (told_other 0 make.out.0 (old.said channels.Out) (made_line count) (made_is_other count (omega (arith, few))) fresh.1),
+    )
+sound_make few make (inr run) = absurd (no_init run.2 make.can.init)
+
+job_sound : LineTellsOne → (words : List (List ℕ)) (files : ℕ → List ℕ) (job : Job) {old new : Image} → IsJob words job → IsSoundImage old
     → IsJobPartlyDone true files job old new → IsSoundImage new
-job_sound words files (job.Start pages) is sound then =
+job_sound law words files (job.Start pages) is sound then =
     sound_then (λ between leads. sound_start sound leads) (λ between line did. told_start did) then
-job_sound words files (job.Go target pace) is sound then =
-    sound_then (λ between leads. sound_go {target = target} sound leads) (λ between line did. told_go did) then
-job_sound words files (job.Resume pace) is sound then =
-    sound_then (λ between leads. sound_resume sound leads) (λ between line did. told_resume did) then
-job_sound words files (job.Once target) is sound then = sound_once target then.0 (once_fits words target is) then.1 then.2 sound
-job_sound words files job.Show is sound then =
+job_sound law words files (job.Go target pace) is sound then =
+    sound_then (λ between leads. sound_go law {target = target} sound leads) (λ between line did. told_go did) then
+job_sound law words files (job.Resume pace) is sound then =
+    sound_then (λ between leads. sound_resume law sound leads) (λ between line did. told_resume did) then
+job_sound law words files (job.Once target) is sound then = sound_once target then.0 (once_fits words target is) then.1 then.2 sound
+job_sound law words files job.Show is sound then =
     sound_said (show_is_other then.0 then.1.lawful) then.2.files then.2.out sound
+job_sound law words files (job.Make seed count) is sound then = sound_make (paced words (job.Make seed count) is) then sound
 
 -- ---- the program
 
-touches_sound : {words : List (List ℕ)} {files : ℕ → List ℕ} {old new : Image} → IsSoundImage old → Touches true words files old new
+touches_sound : LineTellsOne → {words : List (List ℕ)} {files : ℕ → List ℕ} {old new : Image} → IsSoundImage old → Touches true words files old new
     → IsSoundImage new
-touches_sound sound (inl none) = sound_same none.files none.out sound
-touches_sound {words = words} {files = files} sound (inr some) = job_sound words files some.0 some.1 sound some.2
+touches_sound law sound (inl none) = sound_same none.files none.out sound
+touches_sound law {words = words} {files = files} sound (inr some) = job_sound law words files some.0 some.1 sound some.2
 
 -- Where each image at entry is sound, each one since is.
-pub stays_sound : {H : Type 0} (m : HostModel H) {words : List (List ℕ)} {files : ℕ → List ℕ} {old new : H}
+pub stays_sound : LineTellsOne → {H : Type 0} (m : HostModel H) {words : List (List ℕ)} {files : ℕ → List ℕ} {old new : H}
     → Leads m (Touches m.crashes.is_honest words files) old new
     → ((image : Image) → IsTrue m.crashes.is_honest → m.crashes.may_leave old image → IsSoundImage image)
     → EverySince m.crashes IsSoundImage old new
-stays_sound m {words = words} {files = files} leads sound image honest since =
+stays_sound law m {words = words} {files = files} leads sound image honest since =
     let yes : m.crashes.is_honest ≡ true = honest in
     every_since IsSoundImage m.counts_only_now leads.images (λ start known is. sound start known is)
     (λ start later known is touched.
-    touches_sound {words = words} {files = files} (sound start known is)
+    touches_sound law {words = words} {files = files} (sound start known is)
     (subst (λ (b : Bool). Touches b words files start later) yes touched)) image honest since

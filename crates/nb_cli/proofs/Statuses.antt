@@ -1,17 +1,23 @@
 -- What the top call's status and files are, from what its run did and how its refusal was told.
-use Rattle.std.proofs.Common.{◌≡◌, ◌≢◌, ◌⊎◌, inl, inr, ℕ, ◌≤◌, Bool, List, refl, ap, sym, subst, ◌∙◌, arith, Result, Err, ◌↔◌}
+use Rattle.std.proofs.Common.{◌≡◌, ◌≢◌, ◌⊎◌, inl, inr, ℕ, ◌≤◌, Bool, IsTrue, List, refl, ap, sym, subst, ◌∙◌, arith, Result, Err, ◌↔◌}
 use Rattle.std.specs.Prelude.{Contains}
 use Rattle.nb_host.specs.declared.host.Channel.{Channel}
 use Rattle.nb_host.specs.declared.host.Channel.TheVariants as channels
+use Rattle.nb_host.specs.declared.host.HostError.{HostError}
+use Rattle.nb_host.specs.declared.host.HostError.TheVariants.{Fault, NoMemory}
 use Rattle.nb_host.specs.Image.{Image, SaysPart}
 use Rattle.nb_host.specs.Meaning.{HostModel, Leads}
 use Rattle.nb_host.specs.Crashes.{Stays}
-use Rattle.nb_host.proofs.Callers.{leads_more, leads_then, leads_before}
+use Rattle.nb_host.proofs.Callers.{leads_more, leads_then, leads_before, stays_contents}
 use Rattle.nb_model.specs.Leapfrog.{escaped_count}
-use Rattle.nb_format.specs.Lines.{once_line}
-use Rattle.nb_format.specs.Snapshot.{IsSnapshot}
+use Rattle.nb_format.specs.Lines.{made_line, once_line}
+use Rattle.nb_format.specs.Snapshot.{IsSnapshot, IsUnfinished}
 use Rattle.nb_journal.specs.Form.{Log, IsJournal}
 use Rattle.nb_journal.specs.Offsets.{journal_file}
+use Rattle.nb_engine.specs.declared.going.Pace.{Pace}
+use Rattle.nb_engine.specs.Refusal.{of_host}
+use Rattle.nb_engine.specs.Represents.{RepresentsRun}
+use Rattle.nb_engine.specs.Sessions.{IsBroughtUp}
 use Rattle.nb_engine.specs.Shown.{IsNotShown}
 use Rattle.nb_engine.specs.Start.{Start, IsStartReady}
 use Rattle.nb_engine.specs.Steps.{SaidFrontOf}
@@ -21,12 +27,16 @@ use Rattle.nb_cli.specs.declared.stop.Stop.{Stop}
 use Rattle.nb_cli.specs.declared.stop.Stop.TheVariants as stop
 use Rattle.nb_cli.specs.declared.words.Job.{Job}
 use Rattle.nb_cli.specs.declared.words.Job.TheVariants as job
-use Rattle.nb_cli.specs.Words.{IsJob}
+use Rattle.nb_cli.specs.Words.{IsJob, IsNoCommand}
 use Rattle.nb_cli.specs.Stop.{status_of, stop_status, IsWithoutCause, IsSayable}
 use Rattle.nb_cli.specs.Once.{once_file, ticks_to, list_at}
 use Rattle.nb_cli.specs.Show.{show_text}
-use Rattle.nb_cli.specs.Answer.{statuses, Yields, ComesWhere, ComesByCause, HasCause, HasCauseOf, HasSpoilt, IsSpoiltBy, IsJobReady, IsJobRefused, IsJobDone, IsJobPartlyDone, LeadsThenTells, IsUntouched, IsLeftSo, LeavesAll, Touches, RunTouches, JobTouches, HasBegun, HasBegunOrNot, JobBegins, WasTold}
-use Rattle.nb_cli.proofs.Causes.{IsCause, no_cause, one_cause, one_job, not_gone, not_shown, not_refused_job}
+use Rattle.nb_engine.specs.Files.{init_file}
+use Rattle.nb_cli.specs.Make.{HasMade, IsMakeUnderWay}
+use Rattle.nb_cli.specs.Telling.{HasGone, LeadsThenTells}
+use Rattle.nb_cli.specs.Answer.{statuses, Yields, ComesWhere, ComesByCause, HasCause, HasCauseOf, HasSpoilt, IsSpoiltBy, IsJobReady, IsJobRefused, IsJobDone, IsJobPartlyDone, BringsUp, BringsUpWords, IsUntouched, IsLeftSo, LeavesAll, Touches, RunTouches, JobTouches, HasBegun, HasBegunOrNot, JobBegins, WasTold}
+use Rattle.nb_cli.proofs.Commands.{one_job}
+use Rattle.nb_cli.proofs.Causes.{IsCause, no_cause, one_cause, not_gone, not_shown, not_refused_job}
 use Rattle.nb_cli.proofs.Saying.{behind_answer, behind_kept}
 
 -- The run was done.
@@ -45,6 +55,9 @@ run_reason job is (inl (inl device)) = inr (inr (inl (ap stop.Refused device)))
 run_reason job is (inl (inr memory)) = inr (inr (inr (ap stop.Refused memory)))
 run_reason job {why = why} is (inr (inl refused)) = inl (inr (job, why, refl, is, refused))
 run_reason job {why = why} is (inr (inr spoilt)) = inr (inl (job, why, refl, is, spoilt))
+
+pub no_words_reason : {words : List (List ℕ)} {files : ℕ → List ℕ} → IsNoCommand words → IsReason words files stop.Words
+no_words_reason none = inl (inl (refl, none))
 
 -- A run that was refused so ended with this status.
 pub record IsRefusal (words : List (List ℕ)) (old : Image) (why : Stop) (result : ℕ) : Type 0 where
@@ -80,6 +93,7 @@ job_ready honest old now (job.Go target pace) done = done.done.could
 job_ready honest old now (job.Resume pace) done = done.done.could
 job_ready honest old now (job.Once target) done = (done.0, done.1)
 job_ready honest old now job.Show done = (done.0, done.1)
+job_ready honest old now (job.Make seed count) done = done.can
 
 -- The run of a finished command met no cause.
 pub finished_no_cause : {honest : Bool} {words : List (List ℕ)} {old now : Image} {why : Stop} → HasFinished honest words old now
@@ -162,13 +176,13 @@ status_in (stop.Refused refusal.NotStarted) result sayable (inl is) = (5, omega 
 status_in (stop.Refused refusal.Started) result sayable (inl is) = (6, omega arith, sym is)
 status_in (stop.Refused (refusal.LegOpen _ _)) result sayable (inl is) = (7, omega arith, sym is)
 status_in (stop.Refused (refusal.TickLimit _)) result sayable (inl is) = (8, omega arith, sym is)
-status_in (stop.Refused refusal.InitThere) result sayable (inl is) = absurd sayable
-status_in (stop.Refused (refusal.TooMany _)) result sayable (inl is) = (9, omega arith, sym is)
-status_in (stop.Refused refusal.Device) result sayable (inl is) = (10, omega arith, sym is)
-status_in (stop.Refused (refusal.Damaged _)) result sayable (inl is) = (11, omega arith, sym is)
-status_in (stop.Refused refusal.NoMemory) result sayable (inl is) = (12, omega arith, sym is)
-status_in why result sayable (inr (inl is)) = (10, omega arith, sym is)
-status_in why result sayable (inr (inr is)) = (12, omega arith, sym is)
+status_in (stop.Refused refusal.InitThere) result sayable (inl is) = (9, omega arith, sym is)
+status_in (stop.Refused (refusal.TooMany _)) result sayable (inl is) = (10, omega arith, sym is)
+status_in (stop.Refused refusal.Device) result sayable (inl is) = (11, omega arith, sym is)
+status_in (stop.Refused (refusal.Damaged _)) result sayable (inl is) = (12, omega arith, sym is)
+status_in (stop.Refused refusal.NoMemory) result sayable (inl is) = (13, omega arith, sym is)
+status_in why result sayable (inr (inl is)) = (11, omega arith, sym is)
+status_in why result sayable (inr (inr is)) = (13, omega arith, sym is)
 
 steady_words : Yields 1 → ⊥
 steady_words (inl is) = absurd (omega arith)
@@ -187,13 +201,29 @@ words_always : (why : Stop) (result : ℕ) → why ≡ stop.Words → (result �
 words_always why result is (inl same) = inl (same ∙ ap stop_status is)
 words_always why result is (inr yields) = inr yields
 
+-- the same refusal
+same_reason : {T : Type 0} {a b : Stop} → ◌≡◌ {A = Result T Stop} (Err a) (Err b) → a ≡ b
+same_reason same = cc
+
+-- what a refusal for want of memory answers stays so
+pub told_kept : {H : Type 0} {m : HostModel H} {why : Stop} {old new : H} {status : ℕ} → WasTold m why old new status
+    → Yields (stop_status why) → status ≡ stop_status why
+told_kept {why = why} told yields = told.status_is ∙ behind_kept why told.answer yields
+
 -- The status of the words comes exactly where they are no command, and yields.
-pub words_where : {T NoCommand : Type 0} {why : Stop} {result : ℕ}
-    → ((◌≡◌ {A = Result T Stop} (Err why) (Err stop.Words)) ↔ NoCommand) → (result ≡ stop_status why) ⊎ Yields result
+pub words_where : {T NoCommand : Type 0} {why : Stop} {result : ℕ} → (◌≡◌ {A = Result T Stop} (Err why) (Err stop.Words) → NoCommand)
+    → (NoCommand → ◌≡◌ {A = Result T Stop} (Err why) (Err stop.Words)
+    ⊎ ◌≡◌ {A = Result T Stop} (Err why) (Err (stop.Refused refusal.NoMemory)))
+    → (result ≡ stop_status why) ⊎ Yields result → (Yields (stop_status why) → result ≡ stop_status why)
     → ComesWhere 1 result NoCommand
-words_where {T} {NoCommand} {why} {result} words answer = record {
-  only = λ is. words_only why result (λ same. words.0 (ap Err same)) answer is;
-  always = λ none. words_always why result (let same = words.1 none in cc) answer;
+words_where {why = why} {result = result} only always answer kept = record {
+  only = λ is. words_only why result (λ same. only (ap Err same)) answer is;
+  always = λ none. elim (always none) [
+    | inl is ↦ words_always why result (same_reason is) answer
+    | inr is ↦
+        let free = subst (λ (w : Stop). Yields (stop_status w)) (sym (same_reason is)) (inr refl) in
+        inr (subst Yields (sym (kept free)) free)
+  ];
 }
 
 -- What may have changed.
@@ -227,6 +257,21 @@ then_told {Did = Did} {old = old} then part =
       ];
     }
 
+make_told : {seed count : ℕ} {old middle now : Image} {line : List ℕ} → IsMakeUnderWay seed count old middle
+    → SaysPart channels.Err line middle now → IsMakeUnderWay seed count old now
+make_told {seed} {count} {old} {middle} {now} make part =
+    let spared = part.2.others channels.Out Err≢Out in
+    record {
+      can = make.can;
+      whole = subst (λ (f : ℕ → List ℕ). IsUnfinished (f init_file) ⊎ HasMade seed count f) (sym part.2.files) make.whole;
+      others = λ number first second. ap (λ (f : ℕ → List ℕ). f number) part.2.files ∙ make.others number first second;
+      out = subst (λ (said : List ℕ). SaidFrontOf (made_line count) (old.said channels.Out) said) (sym spared) make.out;
+      said_last = elim make.said_last [
+        | inl same ↦ inl (spared ∙ same)
+        | inr made ↦ inr (subst (λ (f : ℕ → List ℕ). HasMade seed count f) (sym part.2.files) made)
+      ];
+    }
+
 partly_told : (honest : Bool) (files : ℕ → List ℕ) (job : Job) (old : Image) {middle now : Image} {line : List ℕ}
     → IsJobPartlyDone honest files job old middle → SaysPart channels.Err line middle now → IsJobPartlyDone honest files job old now
 partly_told honest files (job.Start pages) old some part = then_told some part
@@ -255,6 +300,7 @@ partly_told honest files job.Show old some part =
         out = subst P (sym (part.2.others channels.Out Err≢Out)) some.2.out;
       },
     )
+partly_told honest files (job.Make seed count) old some part = make_told some part
 
 touches_told : {honest : Bool} {words : List (List ℕ)} {files : ℕ → List ℕ} {old middle now : Image} {line : List ℕ}
     → Touches honest words files old middle → SaysPart channels.Err line middle now → Touches honest words files old now
@@ -297,13 +343,18 @@ left_so honest (job.Start pages) old now why then refused =
 left_so honest (job.Go target pace) old now why then (inl none) =
     inl (untouched_by then (λ between line did. not_gone old.file target did.could (inl none)) (then.leads.session.idle (no_journal old none)))
 left_so honest (job.Go target pace) old now why then (inr none) =
-    let agrees = then.leads.refused none.0 why none.1 none.2 in
+    let left = then.leads.still none.0 none.1 (inl (why, none.2)) in
+    let never = λ (between : Image) (line : List ℕ) (did : HasGone target old between line). not_gone old.file target did.could (inr none) in
     inr (
       none.0,
       none.1,
       record {
-        others = λ number spared. ap (λ (f : ℕ → List ℕ). f number) then.files ∙ agrees.others number spared;
-        out = not_told then (λ between line did. not_gone old.file target did.could (inr none)) ∙ ap (λ (f : Channel → List ℕ). f channels.Out) agrees.said;
+        others = record {
+          others = λ number spared. ap (λ (f : ℕ → List ℕ). f number) then.files ∙ left.others.others number spared;
+          out = not_told then never ∙ ap (λ (f : Channel → List ℕ). f channels.Out) left.others.said;
+        };
+        due = λ undue. untouched_by then never (left.due undue);
+        finished = λ before. untouched_by then never (left.finished before);
       },
     )
 left_so honest (job.Resume pace) old now why then none =
@@ -312,6 +363,8 @@ left_so honest (job.Once target) old now why some refused =
     absurd (not_refused_job old.file (job.Once target) why (some.0, some.1) refused)
 left_so honest job.Show old now why some refused =
     absurd (not_refused_job old.file job.Show why (some.0, some.1) refused)
+left_so honest (job.Make seed count) old now why some refused =
+    absurd (not_refused_job old.file (job.Make seed count) why some.can refused)
 
 -- Where a cause holds nothing has changed but on Err, and but for the snapshot that was due.
 pub cause_untouched : {honest : Bool} {words : List (List ℕ)} {old now : Image} {why : Stop} → Touches honest words old.file old now
@@ -325,6 +378,36 @@ cause_untouched {honest = honest} {words = words} {old = old} {now = now} (inr s
       left_so honest some.0 old now cause.1 some.2
           (subst (λ (j : Job). IsJobRefused old.file j cause.1) (one_job words cause.0 some.0 cause.3 some.1) cause.4),
     )
+
+-- What `go` brings up where it refuses a leg.
+
+-- a fault of the host, or want of memory, is no such refusal
+pub brings_nothing : {H : Type 0} (m : HostModel H) (target : ℕ) (pace : Pace) (old new : H) (error : HostError)
+    → BringsUp m (job.Go target pace) old new (of_host error)
+brings_nothing m target pace old new Fault = λ leg. absurd leg
+brings_nothing m target pace old new NoMemory = λ leg. absurd leg
+
+-- the first sync came before
+pub brings_synced : {H : Type 0} {m : HostModel H} {old middle new : H} → Leads m Stays old middle
+    → (IsTrue m.tells → (m.tally old).syncs ≤ (m.tally middle).syncs) → IsBroughtUp m middle new → IsBroughtUp m old new
+brings_synced {m = m} stays more brought = record {
+  durable = brought.durable;
+  stands = λ tells h is represents.
+      brought.stands tells h is (subst (RepresentsRun h) (sym (stays_contents stays)) represents);
+  synced = λ tells. omega (arith, more tells, brought.synced tells);
+}
+
+-- the program's words are one command
+pub brings_words : {H : Type 0} (m : HostModel H) (words : List (List ℕ)) (one : Job) (refusal : Refusal) (old new : H)
+    → IsJob words one → BringsUp m one old new refusal → BringsUpWords m words old new (stop.Refused refusal)
+brings_words m words one refusal old new is brought = λ job why is_job same.
+    subst (λ (r : Refusal). BringsUp m job old new r) (inside same)
+    (subst (λ (j : Job). BringsUp m j old new refusal) (one_job words one job is is_job) brought) where
+      inside : {a b : Refusal} → stop.Refused a ≡ stop.Refused b → a ≡ b
+      inside same = cc
+
+pub brings_none : {H : Type 0} (m : HostModel H) (words : List (List ℕ)) (old new : H) → BringsUpWords m words old new stop.Words
+brings_none m words old new = λ job why is_job same. absurd (cc)
 
 -- What a run of a command is to the program.
 pub begins_run : {H : Type 0} {m : HostModel H} {words : List (List ℕ)} {job : Job} {old new : H} → IsJob words job

@@ -6,18 +6,16 @@ use Rattle.nb_host.specs.declared.host.HostError.{HostError}
 use Rattle.nb_host.specs.Crashes.{Stays}
 use Rattle.nb_host.specs.Image.{Image}
 use Rattle.nb_host.specs.Meaning.{HostModel, Leads, Spoke, Stopped, IsDurable}
-use Rattle.nb_format.specs.Lines.{started_line, done_line, once_line}
-use Rattle.nb_format.specs.Snapshot.{IsSnapshot}
+use Rattle.nb_format.specs.Lines.{once_line}
+use Rattle.nb_format.specs.Snapshot.{IsSnapshot, IsFinishedSnapshot}
 use Rattle.nb_journal.specs.Form.{Log, IsJournal, progress_of}
 use Rattle.nb_journal.specs.Offsets.{journal_file}
 use Rattle.nb_engine.specs.declared.refusal.Refusal.{Refusal}
 use Rattle.nb_engine.specs.declared.refusal.Refusal.TheVariants as refusal
-use Rattle.nb_engine.specs.declared.going.Done.{Done}
-use Rattle.nb_engine.specs.Acknowledged.{IsToldUpTo}
-use Rattle.nb_engine.specs.Histories.{History, IsHistory}
+use Rattle.nb_engine.specs.Due.{IsLastDue}
 use Rattle.nb_engine.specs.Refusal.{of_host}
-use Rattle.nb_engine.specs.Represents.{RepresentsHistory}
-use Rattle.nb_engine.specs.Sessions.{ticks_left, aimed_at, ticks_to, IsLed, GoLeads, ResumeLeads, IsGoRefused, CanGo, CanResume, IsSlotSpoilt}
+use Rattle.nb_engine.specs.Represents.{snap_of}
+use Rattle.nb_engine.specs.Sessions.{GoLeads, ResumeLeads, IsBroughtUp, IsGoRefused, IsOfLeg, CanGo, CanResume, IsSlotSpoilt}
 use Rattle.nb_engine.specs.Shown.{IsNotShown}
 use Rattle.nb_engine.specs.Steps.{SaidFrontOf}
 use Rattle.nb_cli.specs.declared.stop.Stop.{Stop}
@@ -27,13 +25,15 @@ use Rattle.nb_cli.specs.declared.words.Job.TheVariants as job
 use Rattle.nb_cli.specs.Words.{IsJob, IsNoCommand}
 use Rattle.nb_cli.specs.Stop.{stop_status, stop_line, IsWithoutCause}
 use Rattle.nb_engine.specs.Snapshots.{snapshot_files}
-use Rattle.nb_engine.specs.Start.{Start, IsStartReady, IsStartRefused, started, StartLeads}
+use Rattle.nb_engine.specs.Start.{Start, IsStartReady, IsStartRefused, StartLeads}
 use Rattle.nb_cli.specs.Once.{once_file, ticks_to as ticks_from, list_at, IsReady, IsRefused}
 use Rattle.nb_cli.specs.Show.{show_text}
+use Rattle.nb_cli.specs.Make.{CanMake, IsThere, IsMade, IsMakeUnderWay, make_syncs}
+use Rattle.nb_cli.specs.Telling.{HasStarted, HasGone, HasResumed, IsDoneThenTold, LeadsThenTells}
 
 -- the statuses of the program: 0 where the command was done, 1 where the words are none, and those of the refusals
 abbrev pub statuses : List ℕ
-statuses = 0 ∷ 1 ∷ 2 ∷ 3 ∷ 4 ∷ 5 ∷ 6 ∷ 7 ∷ 8 ∷ 10 ∷ 11 ∷ 12 ∷ 13 ∷ []
+statuses = 0 ∷ 1 ∷ 2 ∷ 3 ∷ 4 ∷ 5 ∷ 6 ∷ 7 ∷ 8 ∷ 9 ∷ 10 ∷ 11 ∷ 12 ∷ 13 ∷ []
 
 -- The status is one of the two to which each status that has a cause yields: that of a fault of the device, 11, and that of
 -- want of memory, 13.
@@ -46,13 +46,14 @@ pub record ComesWhere (expected status : ℕ) (Cause : Type 0) : Type 0 where
   pub always : Cause → (status ≡ expected) ⊎ Yields status
 
 -- A command can be done, by what the files hold: `start` where none was done and the files spell a start, `go` and `resume` by
--- the journal, `once` from a start, and `show` of a journal.
+-- the journal, `once` from a start, `show` of a journal, and `make` where its two files are empty.
 abbrev pub IsJobReady : (ℕ → List ℕ) → Job → Type 0
 IsJobReady files (job.Start pages) = (start : Start) × IsStartReady files start
 IsJobReady files (job.Go target pace) = CanGo target files
 IsJobReady files (job.Resume pace) = CanResume files
 IsJobReady files (job.Once target) = (start : Start) × IsReady files target start
 IsJobReady files job.Show = (log : Log) × IsJournal log (files journal_file)
+IsJobReady files (job.Make seed count) = CanMake files
 
 -- The cause for which a command refuses by what its files hold.
 abbrev pub IsJobRefused : (ℕ → List ℕ) → Job → Refusal → Type 0
@@ -61,6 +62,7 @@ IsJobRefused files (job.Go target pace) why = IsGoRefused target files why
 IsJobRefused files (job.Resume pace) why = IsNotShown (files journal_file) why
 IsJobRefused files (job.Once target) why = IsRefused files target why
 IsJobRefused files job.Show why = IsNotShown (files journal_file) why
+IsJobRefused files (job.Make seed count) why = IsThere files why
 
 -- Why a command that can be done may still refuse, by what its files hold: the slot of the last tick is spoilt.
 abbrev pub IsJobSpoilt : (ℕ → List ℕ) → Job → Refusal → Type 0
@@ -117,56 +119,6 @@ pub record IsPartlyShown (log : Log) (old new : Image) : Type 0 where
   pub files : new.file ≡ old.file
   pub out : SaidFrontOf (show_text log) (old.said channels.Out) (new.said channels.Out)
 
--- ---- the sessions of a run
-
--- `start` is done: the folder represents the run that it starts, if no tick was acknowledged before, and this is its line.
-pub record HasStarted (old new : Image) (line : List ℕ) : Type 0 where
-  pub start : Start
-  pub ready : IsStartReady old.file start
-  pub represents : IsToldUpTo 0 (old.said channels.Out) → RepresentsHistory (started start) new
-  pub line_is : line ≡ started_line (length start.bodies) start.time
-
--- numbers of 64 bits, as in every answer
-pub record IsInWords (done : Done) : Type 0 where
-  pub time : done.time < 2 ^ 64
-  pub ticks : done.ticks < 2 ^ 64
-  pub gone : done.gone < 2 ^ 64
-
--- `go` is done: what the folder represented was led to the target, and this is its line.
-pub record HasGone (target : ℕ) (old new : Image) (line : List ℕ) : Type 0 where
-  pub done : Done
-  pub fits : IsInWords done
-  pub could : CanGo target old.file
-  pub led : (h : History) → IsHistory h → RepresentsHistory h old → IsLed (ticks_to target h) (aimed_at target h) old done new
-  pub line_is : line ≡ done_line done.time done.ticks done.gone
-
--- `resume` is done: what the folder represented was led to the end of its last leg, and this is its line.
-pub record HasResumed (old new : Image) (line : List ℕ) : Type 0 where
-  pub done : Done
-  pub fits : IsInWords done
-  pub could : CanResume old.file
-  pub led : (h : History) → IsHistory h → RepresentsHistory h old → IsLed (ticks_left (progress_of h.log)) h old done new
-  pub line_is : line ≡ done_line done.time done.ticks done.gone
-
--- Calls led so, and this is done; then its line was said.
-pub record IsDoneThenTold (by : Image → Image → Type 0) (Did : Image → Image → List ℕ → Type 0) (old new : Image) : Type 0 where
-  pub between : Image
-  pub leads : by old between
-  pub line : List ℕ
-  pub done : Did old between line
-  pub files : new.file ≡ between.file
-  pub out : new.said channels.Out ≡ between.said channels.Out ++ line
-  pub err : new.said channels.Err ≡ between.said channels.Err
-
--- Calls lead so, done or not; and a front of a line is said only behind what is done, which it tells.
-pub record LeadsThenTells (by : Image → Image → Type 0) (Did : Image → Image → List ℕ → Type 0) (old new : Image) : Type 0 where
-  pub between : Image
-  pub leads : by old between
-  pub files : new.file ≡ between.file
-  pub told : (new.said channels.Out ≡ between.said channels.Out)
-      ⊎ ((line : List ℕ) × Did old between line
-      × SaidFrontOf line (between.said channels.Out) (new.said channels.Out))
-
 -- ---- all commands
 
 -- A command is done. What `start`, `go` and `resume` may change is said of an honest host in full.
@@ -176,6 +128,7 @@ IsJobDone honest (job.Go target pace) old new = IsDoneThenTold (GoLeads honest t
 IsJobDone honest (job.Resume pace) old new = IsDoneThenTold (ResumeLeads honest) HasResumed old new
 IsJobDone honest (job.Once target) old new = (start : Start) × IsReady old.file target start × IsDone target start old new
 IsJobDone honest job.Show old new = (log : Log) × IsJournal log (old.file journal_file) × IsShown log old new
+IsJobDone honest (job.Make seed count) old new = IsMade seed count old new
 
 -- What a command, where the files were these, may have changed at some moment, done or not.
 abbrev pub IsJobPartlyDone : Bool → (ℕ → List ℕ) → Job → Image → Image → Type 0
@@ -184,6 +137,7 @@ IsJobPartlyDone honest files (job.Go target pace) old new = LeadsThenTells (GoLe
 IsJobPartlyDone honest files (job.Resume pace) old new = LeadsThenTells (ResumeLeads honest) HasResumed old new
 IsJobPartlyDone honest files (job.Once target) old new = (start : Start) × IsReady files target start × IsPartlyDone target start old new
 IsJobPartlyDone honest files job.Show old new = (log : Log) × IsJournal log (files journal_file) × IsPartlyShown log old new
+IsJobPartlyDone honest files (job.Make seed count) old new = IsMakeUnderWay seed count old new
 
 -- Nothing changed but what was said on Err.
 pub record IsUntouched (old new : Image) : Type 0 where
@@ -195,11 +149,16 @@ pub record KeepsAllBut (files : List ℕ) (old new : Image) : Type 0 where
   pub others : (number : ℕ) → (Contains files number → ⊥) → new.file number ≡ old.file number
   pub out : new.said channels.Out ≡ old.said channels.Out
 
--- What a refusal by a cause leaves: all as it was; but `go` may have finished the snapshot that was due.
+-- No file changed but those that the snapshot of the last tick takes, and none where it wasn't due, or was finished.
+pub record IsLeftFinishing (log : Log) (old new : Image) : Type 0 where
+  pub others : KeepsAllBut (snapshot_files (progress_of log).ticks) old new
+  pub due : (IsLastDue log → ⊥) → IsUntouched old new
+  pub finished : IsFinishedSnapshot log.count (old.file (snap_of (progress_of log).ticks)) → IsUntouched old new
+
+-- What a refusal by a cause leaves: all as it was; but `go` may have finished the snapshot that was due, or begun it.
 abbrev pub IsLeftSo : Job → Image → Image → Type 0
 IsLeftSo (job.Go target pace) old new =
-    IsUntouched old new
-    ⊎ ((log : Log) × IsJournal log (old.file journal_file) × KeepsAllBut (snapshot_files (progress_of log).ticks) old new)
+    IsUntouched old new ⊎ ((log : Log) × IsJournal log (old.file journal_file) × IsLeftFinishing log old new)
 IsLeftSo _ old new = IsUntouched old new
 
 -- The same of the program: where the words are none nothing was done.
@@ -227,19 +186,27 @@ abbrev pub once_syncs : ℕ
 once_syncs = 5
 
 -- How often the program syncs where a command is done: once before it, so that what it reads is durable, and as often as
--- the command does. Of `start`, `go` and `resume` it isn't said: what each of their syncs is for stands in what a crash may
--- leave.
+-- the command does. Of `start`, `go` and `resume` only the first is said: what each of the others is for stands in what a crash
+-- may leave.
 abbrev pub syncs_of : Job → Option ℕ
 syncs_of (job.Start _) = None
 syncs_of (job.Go _ _) = None
 syncs_of (job.Resume _) = None
 syncs_of (job.Once _) = Some (once_syncs + 1)
 syncs_of job.Show = Some 1
+syncs_of (job.Make _ _) = Some (make_syncs + 1)
 
 -- How often a run syncs that ends so, before and behind, by how often it does where it is done: the first sync alone where
--- it can't be done, and at most all where the device failed or memory is wanting.
+-- it can't be done, and, where that is said, at most all where the device failed or memory is wanting. `go` may have synced a
+-- snapshot before it refuses a leg. Where a page is damaged that a session has read, it isn't said.
 abbrev pub SyncsRun : Option ℕ → Result (Unit {0}) Refusal → ℕ → ℕ → Type 0
-SyncsRun None result before behind = ⊤
+SyncsRun None (Ok _) before behind = before + 1 ≤ behind
+SyncsRun None (Err refusal.Device) before behind = ⊤
+SyncsRun None (Err refusal.NoMemory) before behind = ⊤
+SyncsRun None (Err (refusal.LegOpen _ _)) before behind = before + 1 ≤ behind
+SyncsRun None (Err (refusal.TickLimit _)) before behind = before + 1 ≤ behind
+SyncsRun None (Err (refusal.Damaged page)) before behind = page.file ≡ journal_file → behind ≡ before + 1
+SyncsRun None (Err why) before behind = behind ≡ before + 1
 SyncsRun (Some syncs) (Ok _) before behind = behind ≡ before + syncs
 SyncsRun (Some syncs) (Err refusal.Device) before behind = behind ≤ before + syncs
 SyncsRun (Some syncs) (Err refusal.NoMemory) before behind = behind ≤ before + syncs
@@ -257,12 +224,13 @@ pub record CountsRun {H : Type 0} (m : HostModel H) (all : Option ℕ) (old new 
       → (m.tally new).refused_says channels.Out ≡ (m.tally old).refused_says channels.Out
   pub syncs : IsTrue m.tells → SyncsRun all result (m.tally old).syncs (m.tally new).syncs
 
--- The same of the program: where the words are no command no call was made at all.
+-- The same of the program: where the words are no command, or memory is wanting to read them, no call was made at all.
 abbrev pub CountsWords : {H : Type 0} → HostModel H → List (List ℕ) → H → H → Result (Unit {0}) Stop → Type 0
 CountsWords m words old new (Ok _) = (job : Job) × IsJob words job × CountsRun m (syncs_of job) old new (Ok tt)
 CountsWords m words old new (Err stop.Words) = new ≡ old
 CountsWords m words old new (Err (stop.Refused why)) =
-    (job : Job) × IsJob words job × CountsRun m (syncs_of job) old new (Err why)
+    ((why ≡ refusal.NoMemory) × (new ≡ old))
+    ⊎ ((job : Job) × IsJob words job × CountsRun m (syncs_of job) old new (Err why))
 
 -- The run began with a sync: nothing was done before what reads was durable.
 pub record HasBegun {H : Type 0} (m : HostModel H) (words : List (List ℕ)) (old new : H) : Type 0 where
@@ -303,12 +271,23 @@ pub record WasTold {H : Type 0} (m : HostModel H) (why : Stop) (old new : H) (st
   pub spoke : Spoke m channels.Err (stop_line why) old new answer
   pub status_is : status ≡ status_behind why answer
 
--- The program was refused so: the run ended for a cause, or with a device fault or want of memory; and then nothing was done
--- but that this was told.
+-- Where `go` refuses a leg, each snapshot that is due is finished.
+abbrev pub BringsUp : {H : Type 0} → HostModel H → Job → H → H → Refusal → Type 0
+BringsUp m (job.Go target pace) old new why = IsOfLeg why → IsBroughtUp m old new
+BringsUp m _ old new why = ⊤
+
+-- The same of the program.
+abbrev pub BringsUpWords : {H : Type 0} → HostModel H → List (List ℕ) → H → H → Stop → Type 0
+BringsUpWords m words old new why = (job : Job) (refusal : Refusal) → IsJob words job → why ≡ stop.Refused refusal
+    → BringsUp m job old new refusal
+
+-- The program was refused so: the run ended for a cause, or with a device fault or want of memory, and where `go` refused a leg,
+-- each snapshot that is due is finished; and then nothing was done but that this was told.
 pub record WasRefused {H : Type 0} (m : HostModel H) (words : List (List ℕ)) (old new : H) (status : ℕ) : Type 0 where
   pub why : Stop
   pub ended : H
   pub cause : IsTrue m.tells → HasCause words (m.contents old).file why ⊎ HasSpoilt words (m.contents old).file why ⊎ IsWithoutCause why
   pub run : HasBegunOrNot m words old ended
+  pub brought : BringsUpWords m words old ended why
   pub counts : CountsWords m words old ended (Err why)
   pub told : WasTold m why ended new status

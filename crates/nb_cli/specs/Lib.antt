@@ -1,6 +1,12 @@
 pub mod Words
+pub mod Splitting
 pub mod Stop
 pub mod Once
 pub mod Show
+pub mod Make
+pub mod Generator
+pub mod Telling
+pub mod Demo
 pub mod Done
 pub mod Answer
+pub mod Worlds

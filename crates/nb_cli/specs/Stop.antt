@@ -52,11 +52,10 @@ stop_line (stop.Refused why) = line_of why
 abbrev pub IsWithoutCause : Stop → Type 0
 IsWithoutCause why = (why ≡ stop.Refused refusal.Device) ⊎ (why ≡ stop.Refused refusal.NoMemory)
 
--- a refusal that a command gives, and that has a line: none is given yet for a folder that has its parameters
+-- a refusal that a command gives, and that has a line
 abbrev pub IsGiven : Refusal → Type 0
 IsGiven (refusal.Params error) = NamesParameter error
 IsGiven (refusal.Snapshot error) = IsBySnapshot error
-IsGiven refusal.InitThere = ⊥
 IsGiven _ = ⊤
 
 -- one that the program ends with

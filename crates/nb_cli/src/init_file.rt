@@ -14,9 +14,6 @@ use nb_host::Host;
 use nb_model::Body;
 use std::alloc::{AllocFailed, Global};
 
-/// The file of the initial snapshot.
-pub const INIT_FILE: u64 = 1;
-
 /// Reads the bodies of the snapshot.
 pub fn read_bodies<H: Host>(
     alloc: Global,

@@ -17,8 +17,8 @@ ghost use Rattle.nb_cli.specs.Once.{once_file, most_once_bodies, ticks_to, list_
 ghost use Rattle.nb_cli.specs.Answer.{once_syncs};
 ghost use Rattle.nb_cli.specs.Done.{TellsOf, BecomesAny, MayWrite};
 
-use crate::init_file::{INIT_FILE, read_bodies};
-use nb_engine::{Refusal, parameters, survey};
+use crate::init_file::read_bodies;
+use nb_engine::{INIT_FILE, Refusal, parameters, survey};
 use nb_fixed::plain_tick;
 use nb_format::{Fresh, SnapReader};
 use nb_host::{Host, HostError};

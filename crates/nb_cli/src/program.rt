@@ -9,17 +9,20 @@ ghost use Rattle.nb_engine.specs.Represents.{IsSoundImage};
 ghost use Rattle.nb_cli.specs.declared.stop.Stop.{Stop};
 ghost use Rattle.nb_cli.specs.declared.words.Job.{Job};
 ghost use Rattle.nb_cli.specs.declared.words.Job.TheVariants as job;
+ghost use Rattle.nb_engine.specs.declared.refusal.Refusal.TheVariants as refusal;
 ghost use Rattle.nb_cli.specs.Words.{IsJob, IsPaced, IsNoCommand};
+ghost use Rattle.nb_cli.specs.Worlds.{ExtendsOrNot};
 ghost use Rattle.nb_cli.specs.Stop.{IsGiven, IsSayable, IsWithoutCause};
-ghost use Rattle.nb_cli.specs.Answer.{statuses, Yields, ComesWhere, ComesByCause, HasCause, HasSpoilt, IsSpoiltBy, IsJobReady, IsJobRefused, IsJobSpoilt, IsJobDone, LeavesAll, Touches, CountsRun, CountsWords, syncs_of, HasBegun, HasBegunOrNot, JobBegins, HasDone, WasTold, WasRefused};
+ghost use Rattle.nb_cli.specs.Answer.{statuses, Yields, ComesWhere, ComesByCause, HasCause, HasSpoilt, IsSpoiltBy, IsJobReady, IsJobRefused, IsJobSpoilt, IsJobDone, LeavesAll, Touches, CountsRun, CountsWords, syncs_of, HasBegun, HasBegunOrNot, JobBegins, HasDone, BringsUp, BringsUpWords, WasTold, WasRefused};
 
+use crate::make_command::make;
 use crate::once_command::once;
 use crate::show_command::folder_text;
 use crate::status::DONE;
 use crate::stop::Stop;
-use crate::words::{Job, job_of};
-use nb_engine::{Pace, Refusal, go, resume, show, start};
-use nb_format::{done_line, once_line, started_line};
+use crate::words::{Job, WordsError, read_words};
+use nb_engine::{Pace, Refusal, go, law_acknowledged, resume, show, start};
+use nb_format::{done_line, made_line, once_line, started_line};
 use nb_host::{Channel, Host};
 use std::alloc::Global;
 
@@ -44,13 +47,17 @@ pub fn nbody<H: Host>(alloc: Global, words: &[&str], host: &mut H) -> u8
         → HasCause (map (λ w. w.now) words.now) (H.meaning.contents host.old).file why
         → LeavesAll (map (λ w. w.now) words.now) (H.meaning.contents host.old) (H.meaning.contents host.new) }
 
-    // What reads, and what a crash leaves, at each moment: a folder that represents a run goes on doing so.
+    // What reads, and what a crash leaves, at each moment: a folder that represents a run goes on doing so, and what
+    // stands in it stays.
     ensures leads { Leads H.meaning (Touches H.meaning.crashes.is_honest (map (λ w. w.now) words.now)
         (H.meaning.contents host.old).file) host.old host.new }
     ensures sound { ((image : Image) → IsTrue H.meaning.crashes.is_honest
         → H.meaning.crashes.may_leave host.old image → IsSoundImage image)
         → EverySince H.meaning.crashes IsSoundImage host.old host.new }
+    ensures extends { (job : Job) → IsJob (map (λ w. w.now) words.now) job
+        → IsSoundImage (H.meaning.contents host.old) → ExtendsOrNot H.meaning job host.old host.new }
 {
+    law_acknowledged();
     match run(alloc, words, host) {
         Ok(()) => DONE,
         Err(why) => say_why(host, why),
@@ -59,7 +66,9 @@ pub fn nbody<H: Host>(alloc: Global, words: &[&str], host: &mut H) -> u8
 
 /// Does what the words ask for, and says its text on Out. It says nothing on Err.
 fn run<H: Host>(alloc: Global, words: &[&str], host: &mut H) -> Result<(), Stop>
-    ensures words { (result ≡ Err Stop.Words) ↔ IsNoCommand (map (λ w. w.now) words.now) }
+    ensures words { result ≡ Err Stop.Words → IsNoCommand (map (λ w. w.now) words.now) }
+    ensures no_words { IsNoCommand (map (λ w. w.now) words.now) → (result ≡ Err Stop.Words)
+        ⊎ (result ≡ Err (Stop.Refused refusal.NoMemory)) }
     ensures cause { IfErr result (λ why. IsTrue H.meaning.tells
         → HasCause (map (λ w. w.now) words.now) (H.meaning.contents host.old).file why
         ⊎ HasSpoilt (map (λ w. w.now) words.now) (H.meaning.contents host.old).file why
@@ -70,15 +79,17 @@ fn run<H: Host>(alloc: Global, words: &[&str], host: &mut H) -> Result<(), Stop>
         × IsJobDone H.meaning.crashes.is_honest job (H.meaning.contents host.old) (H.meaning.contents host.new)) }
     ensures durable { OnOk result (IsDurable H.meaning host.new) }
     ensures begun { OnOk result (HasBegun H.meaning (map (λ w. w.now) words.now) host.old host.new) }
+    ensures brought { IfErr result (BringsUpWords H.meaning (map (λ w. w.now) words.now) host.old host.new) }
     ensures run { HasBegunOrNot H.meaning (map (λ w. w.now) words.now) host.old host.new }
     ensures counts { CountsWords H.meaning (map (λ w. w.now) words.now) host.old host.new result }
 {
-    match job_of(words) {
-        Some(job) => match run_job(alloc, host, job) {
+    match read_words(alloc, words) {
+        Ok(job) => match run_job(alloc, host, job) {
             Ok(()) => Ok(()),
             Err(refusal) => Err(Stop::Refused(refusal)),
         },
-        None => Err(Stop::Words),
+        Err(WordsError::Refused) => Err(Stop::Words),
+        Err(WordsError::NoMemory) => Err(Stop::Refused(Refusal::NoMemory)),
     }
 }
 
@@ -93,6 +104,7 @@ fn run_job<H: Host>(alloc: Global, host: &mut H, job: Job) -> Result<(), Refusal
         (H.meaning.contents host.old) (H.meaning.contents host.new)) }
     ensures durable { OnOk result (IsDurable H.meaning host.new) }
     ensures begun { OnOk result (JobBegins H.meaning job host.old host.new) }
+    ensures brought { IfErr result (BringsUp H.meaning job host.old host.new) }
     ensures run { Leads H.meaning Stays host.old host.new ⊎ JobBegins H.meaning job host.old host.new }
     ensures counts { CountsRun H.meaning (syncs_of job) host.old host.new result }
 {
@@ -102,6 +114,7 @@ fn run_job<H: Host>(alloc: Global, host: &mut H, job: Job) -> Result<(), Refusal
         Job::Resume(pace) => run_resume(alloc, host, pace),
         Job::Once(target) => run_once(alloc, host, target),
         Job::Show => run_show(alloc, host),
+        Job::Make(seed, count) => run_make(host, seed, count),
     }
 }
 
@@ -137,6 +150,7 @@ fn run_go<H: Host>(alloc: Global, host: &mut H, target: u64, pace: Pace) -> Resu
         (H.meaning.contents host.old) (H.meaning.contents host.new)) }
     ensures durable { OnOk result (IsDurable H.meaning host.new) }
     ensures begun { OnOk result (JobBegins H.meaning (job.Go target pace) host.old host.new) }
+    ensures brought { IfErr result (BringsUp H.meaning (job.Go target pace) host.old host.new) }
     ensures run { Leads H.meaning Stays host.old host.new ⊎ JobBegins H.meaning (job.Go target pace) host.old host.new }
     ensures counts { CountsRun H.meaning (syncs_of (job.Go target pace)) host.old host.new result }
 {
@@ -208,6 +222,27 @@ fn run_show<H: Host>(alloc: Global, host: &mut H) -> Result<(), Refusal>
     Ok(())
 }
 
+/// Does the command `make`, and says its line on Out.
+fn run_make<H: Host>(host: &mut H, seed: u64, count: u64) -> Result<(), Refusal>
+    requires { IsPaced (job.Make seed count) }
+    ensures cause { IfErr result (λ why. IsTrue H.meaning.tells → NeedsNoCause why
+        ⊎ IsJobRefused (H.meaning.contents host.old).file (job.Make seed count) why
+        ⊎ IsJobSpoilt (H.meaning.contents host.old).file (job.Make seed count) why) }
+    ensures given { IfErr result IsGiven }
+    ensures done { OnOk result (IsTrue H.meaning.tells → IsJobDone H.meaning.crashes.is_honest (job.Make seed count)
+        (H.meaning.contents host.old) (H.meaning.contents host.new)) }
+    ensures durable { OnOk result (IsDurable H.meaning host.new) }
+    ensures begun { OnOk result (JobBegins H.meaning (job.Make seed count) host.old host.new) }
+    ensures run { Leads H.meaning Stays host.old host.new ⊎ JobBegins H.meaning (job.Make seed count) host.old host.new }
+    ensures counts { CountsRun H.meaning (syncs_of (job.Make seed count)) host.old host.new result }
+{
+    host.sync()?;
+    make(host, seed, count)?;
+    let line = made_line(count);
+    host.say(Channel::Out, line.bytes())?;
+    Ok(())
+}
+
 /// Says on Err why the program isn't done, and answers the status: that of the reason, or, where its line
 /// couldn't be said, that of what kept it from being said. A device fault, damage and want of memory stay what they
 /// are.
@@ -225,6 +260,8 @@ fn say_why<H: Host>(host: &mut H, why: Stop) -> u8
     }
 }
 
+#[cfg(test)]
+mod generated;
 #[cfg(test)]
 mod sessions;
 #[cfg(test)]

@@ -27,7 +27,7 @@ pub const LEG_OPEN: u8 = 7;
 /// More ticks are asked for than a run can have.
 pub const TICK_LIMIT: u8 = 8;
 
-/// The parameters or the initial snapshot are there already. No command gives it yet.
+/// The parameters or the initial snapshot are there already.
 pub const INIT_THERE: u8 = 9;
 
 /// There are more bodies than `once` takes.

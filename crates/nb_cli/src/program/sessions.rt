@@ -614,21 +614,24 @@ fn no_start(rt: HostRuntime) -> Result<(), Fail> {
 
 /// Starts the run of the two bodies, and leads it there and back, as far as the host's calls pass.
 fn there_and_back(alloc: Global, host: &mut MemoryHost) {
-    let _ = status_of(alloc, &["start"], host);
-    let _ = status_of(alloc, &["go", "1"], host);
-    let _ = status_of(alloc, &["go", "0"], host);
+    let _ = status_of(alloc, &["start", "--pages", "4"], host);
+    let _ = status_of(alloc, &["go", "1", "--pages", "4", "--walks", "1"], host);
+    let _ = status_of(alloc, &["go", "0", "--pages", "4", "--walks", "1"], host);
 }
 
 /// Leads the run on, there and back, from wherever it is. The answer is 0 where all of that is done.
 fn go_on(alloc: Global, host: &mut MemoryHost) -> u8 {
     let begun = status_of(alloc, &["show"], host) == 0;
-    let word = if begun { "resume" } else { "start" };
-    let mut status = status_of(alloc, &[word], host);
+    let mut status = if begun {
+        status_of(alloc, &["resume", "--pages", "4", "--walks", "1"], host)
+    } else {
+        status_of(alloc, &["start", "--pages", "4"], host)
+    };
     if host.bytes(AFTER_1).is_empty() {
-        status |= status_of(alloc, &["go", "1"], host);
+        status |= status_of(alloc, &["go", "1", "--pages", "4", "--walks", "1"], host);
     }
     if host.bytes(AFTER_2).is_empty() {
-        status |= status_of(alloc, &["go", "0"], host);
+        status |= status_of(alloc, &["go", "0", "--pages", "4", "--walks", "1"], host);
     }
     status
 }
@@ -649,25 +652,43 @@ fn check_stop(rt: &impl Abort, alloc: Global, calls: u64, outcome: Outcome) -> R
     Ok(())
 }
 
-/// What a crash leaves: what was written, what was synced, or zeros or gates in each unsynced byte.
-const OUTCOMES: [Outcome; 6] = [
-    Outcome::Kept,
-    Outcome::Lost,
-    Outcome::Filled(0),
-    Outcome::Filled(0x46),
-    Outcome::Filled(0x47),
-    Outcome::Filled(0x53),
-];
-
-#[test]
-fn a_stop_at_each_call(rt: HostRuntime) -> Result<(), Fail> {
-    let mut host = folder(rt.alloc(), &TWO_BODIES)?;
-    there_and_back(rt.alloc(), &mut host);
+/// There and back is stopped at each call of the host, and each time a crash leaves this.
+fn check_stops(rt: &impl Abort, alloc: Global, outcome: Outcome) -> Result<(), Fail> {
+    let mut host = folder(alloc, &TWO_BODIES)?;
+    there_and_back(alloc, &mut host);
     let calls = host.calls();
     for passed in 0..calls {
-        for outcome in OUTCOMES {
-            check_stop(&rt, rt.alloc(), passed, outcome)?;
-        }
+        check_stop(rt, alloc, passed, outcome)?;
     }
     Ok(())
+}
+
+#[test]
+fn a_stop_that_leaves_what_was_written(rt: HostRuntime) -> Result<(), Fail> {
+    check_stops(&rt, rt.alloc(), Outcome::Kept)
+}
+
+#[test]
+fn a_stop_that_leaves_what_was_synced(rt: HostRuntime) -> Result<(), Fail> {
+    check_stops(&rt, rt.alloc(), Outcome::Lost)
+}
+
+#[test]
+fn a_stop_that_leaves_zeros(rt: HostRuntime) -> Result<(), Fail> {
+    check_stops(&rt, rt.alloc(), Outcome::Filled(0))
+}
+
+#[test]
+fn a_stop_that_leaves_gates_of_snapshots(rt: HostRuntime) -> Result<(), Fail> {
+    check_stops(&rt, rt.alloc(), Outcome::Filled(0x46))
+}
+
+#[test]
+fn a_stop_that_leaves_gates_of_ticks(rt: HostRuntime) -> Result<(), Fail> {
+    check_stops(&rt, rt.alloc(), Outcome::Filled(0x47))
+}
+
+#[test]
+fn a_stop_that_leaves_gates_of_starts(rt: HostRuntime) -> Result<(), Fail> {
+    check_stops(&rt, rt.alloc(), Outcome::Filled(0x53))
 }

@@ -1,8 +1,9 @@
 use Rattle.std.proofs.Common.{◌≡◌, ◌⊎◌, inr, ℕ, List, map, Bor, IsTrue}
 use Rattle.nb_cli.specs.Stop.{stop_status}
 use Rattle.nb_cli.specs.Answer.{Yields}
-use Rattle.nb_cli.proofs.Statuses.{IsRefusal, refusal_told, told_answer, finished_no_cause, finished_where, refused_where, refused_complete, cause_untouched, run_leads, leads_run, leads_told, not_done, status_in, words_where}
+use Rattle.nb_cli.proofs.Statuses.{IsRefusal, refusal_told, told_answer, told_kept, finished_no_cause, finished_where, refused_where, refused_complete, cause_untouched, run_leads, leads_run, leads_told, not_done, status_in, words_where}
 use Rattle.nb_cli.proofs.Sounding.{stays_sound}
+use Rattle.nb_cli.proofs.Extending.{done_extends, refused_extends}
 use Rattle.nb_cli.proofs.program.nbody.Given.{Over}
 use Rattle.nb_cli.proofs.program.nbody.Goals as goal
 
@@ -31,7 +32,8 @@ pub returns-in-Err-clause-status : goal.returns-in-Err-clause-status
 returns-in-Err-clause-status g c = status_in c.in-Err.why c.say_why.result c.in-Err.ensures.sayable (answer g c)
 
 pub returns-in-Err-clause-words : goal.returns-in-Err-clause-words
-returns-in-Err-clause-words g c = words_where c.in-Err.ensures.words (answer g c)
+returns-in-Err-clause-words g c =
+    words_where c.in-Err.ensures.words c.in-Err.ensures.no_words (answer g c) (told_kept c.say_why.ensures)
 
 pub returns-in-Err-clause-causes : goal.returns-in-Err-clause-causes
 returns-in-Err-clause-causes g c status told other steady = refused_where (refused g c told) steady
@@ -52,8 +54,16 @@ returns-in-Err-clause-leads g c = leads_told (run_leads c.run.ensures.run) c.say
 -- A folder that is sound stays so.
 
 pub returns-in-Ok-clause-sound : goal.returns-in-Ok-clause-sound
-returns-in-Ok-clause-sound g c at_entry = stays_sound g.H.Host.meaning {files = (g.H.Host.meaning.contents c.args.host.now).file} (leads_run (run_leads c.run.ensures.run)) at_entry
+returns-in-Ok-clause-sound g c at_entry = stays_sound c.law_acknowledged.ensures.line g.H.Host.meaning {files = (g.H.Host.meaning.contents c.args.host.now).file} (leads_run (run_leads c.run.ensures.run)) at_entry
 
 pub returns-in-Err-clause-sound : goal.returns-in-Err-clause-sound
 returns-in-Err-clause-sound g c at_entry =
-    stays_sound g.H.Host.meaning {files = (g.H.Host.meaning.contents c.args.host.now).file} (leads_told (run_leads c.run.ensures.run) c.say_why.ensures) at_entry
+    stays_sound c.law_acknowledged.ensures.line g.H.Host.meaning {files = (g.H.Host.meaning.contents c.args.host.now).file} (leads_told (run_leads c.run.ensures.run) c.say_why.ensures) at_entry
+
+-- It extends what it was.
+
+pub returns-in-Ok-clause-extends : goal.returns-in-Ok-clause-extends
+returns-in-Ok-clause-extends g c job is sound = done_extends g.H.Host.meaning _ job is sound c.in-Ok.ensures.begun
+
+pub returns-in-Err-clause-extends : goal.returns-in-Err-clause-extends
+returns-in-Err-clause-extends g c job is sound = refused_extends g.H.Host.meaning _ job is sound c.run.ensures.run c.say_why.ensures

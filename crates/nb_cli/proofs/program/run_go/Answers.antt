@@ -6,10 +6,12 @@ use Rattle.nb_engine.specs.Refusal.{of_host}
 use Rattle.nb_engine.specs.Sessions.{GoLeads}
 use Rattle.nb_engine.proofs.Callers.{durable_said}
 use Rattle.nb_cli.specs.declared.words.Job.TheVariants as job
-use Rattle.nb_cli.specs.Answer.{HasGone, IsJobDone}
+use Rattle.nb_cli.specs.Telling.{HasGone}
+use Rattle.nb_cli.specs.Answer.{IsJobDone, BringsUp}
 use Rattle.nb_cli.proofs.Causes.{IsCause, cause_still, given_by_go}
 use Rattle.nb_cli.proofs.Runs.{said_answer}
-use Rattle.nb_cli.proofs.Sessions.{session_done, go_touches, go_told, counts_first, counts_session, counts_line}
+use Rattle.nb_cli.proofs.Sessions.{session_done, go_touches, go_told, counts_first, counts_session, counts_line, syncs_go}
+use Rattle.nb_cli.proofs.Statuses.{brings_nothing, brings_synced}
 use Rattle.nb_cli.proofs.program.run_go.Goals as goal
 
 -- ---- why it is refused
@@ -49,6 +51,7 @@ returns-in_err-say-clause-run g c = inr (record {
       (λ tells. record {
         done = c.in_ok-done.done;
         fits = record { time = omega arith; ticks = omega arith; gone = omega arith };
+        there = c.in_ok-done.ensures.there;
         could = c.in_ok-done.ensures.ready tells;
         led = c.in_ok-done.ensures.done tells;
         line_is = c.bytes.ensures.value ∙ c.done_line-line.ensures;
@@ -66,6 +69,7 @@ returns-clause-begun g c = record {
       (λ tells. record {
         done = c.in_ok-done.done;
         fits = record { time = omega arith; ticks = omega arith; gone = omega arith };
+        there = c.in_ok-done.ensures.there;
         could = c.in_ok-done.ensures.ready tells;
         led = c.in_ok-done.ensures.done tells;
         line_is = c.bytes.ensures.value ∙ c.done_line-line.ensures;
@@ -85,6 +89,7 @@ returns-clause-done g c tells =
     (record {
       done = c.in_ok-done.done;
       fits = record { time = omega arith; ticks = omega arith; gone = omega arith };
+      there = c.in_ok-done.ensures.there;
       could = c.in_ok-done.ensures.ready tells;
       led = c.in_ok-done.ensures.done tells;
       line_is = c.bytes.ensures.value ∙ c.done_line-line.ensures;
@@ -107,7 +112,36 @@ returns-in_err-done-clause-counts g c =
     let why = c.in_err-done.field-0.0 in
     let handed_on : c.from_residual-in_err-done.result ≡ Err why = search rules in
     let fine : IsOk c.sync.result = search rules in
-    rw handed_on (counts_session fine c.sync.ensures.ran c.go.ensures.ran c.in_err-done.was)
+    let m = g.H.Host.meaning in
+    rw handed_on
+    (counts_session fine c.sync.ensures.ran c.go.ensures.ran c.in_err-done.was
+    (λ told. syncs_go c.args.target (m.contents c.sync.new.self).file why (m.tally c.sync.new.self) (m.tally c.go.new.host)
+    (c.in_err-done.ensures.cause told) (c.in_err-done.ensures.unsynced told)
+    (λ leg. (c.in_err-done.ensures.refused leg).synced told)))
+
+-- ---- what it brings up where it refuses a leg
+
+pub returns-in_err-sync-clause-brought : goal.returns-in_err-sync-clause-brought
+returns-in_err-sync-clause-brought g c =
+    let error = c.in_err-sync.field-0.0 in
+    let handed_on : c.from_residual.result ≡ Err (of_host error) = search rules in
+    rw handed_on (brings_nothing g.H.Host.meaning c.args.target c.args.pace c.args.host.now c.sync.new.self error)
+
+pub returns-in_err-done-clause-brought : goal.returns-in_err-done-clause-brought
+returns-in_err-done-clause-brought g c =
+    let why = c.in_err-done.field-0.0 in
+    let handed_on : c.from_residual-in_err-done.result ≡ Err why = search rules in
+    let fine : IsOk c.sync.result = search rules in
+    let brought : BringsUp g.H.Host.meaning (job.Go c.args.target c.args.pace) c.args.host.now c.go.new.host why = λ leg.
+    brings_synced c.in_ok-sync.ensures.ran.leads (λ told. omega (arith, c.sync.ensures.ran.synced told fine))
+    (c.in_err-done.ensures.refused leg) in
+    rw handed_on brought
+
+pub returns-in_err-say-clause-brought : goal.returns-in_err-say-clause-brought
+returns-in_err-say-clause-brought g c =
+    let error = c.in_err-say.field-0.0 in
+    let handed_on : c.from_residual-in_err-say.result ≡ Err (of_host error) = search rules in
+    rw handed_on (brings_nothing g.H.Host.meaning c.args.target c.args.pace c.args.host.now c.say.new.self error)
 
 pub returns-in_err-say-clause-counts : goal.returns-in_err-say-clause-counts
 returns-in_err-say-clause-counts g c =

@@ -6,10 +6,11 @@ use Rattle.nb_engine.specs.Refusal.{of_host}
 use Rattle.nb_engine.specs.Sessions.{ResumeLeads}
 use Rattle.nb_engine.proofs.Callers.{durable_said}
 use Rattle.nb_cli.specs.declared.words.Job.TheVariants as job
-use Rattle.nb_cli.specs.Answer.{HasResumed, IsJobDone}
+use Rattle.nb_cli.specs.Telling.{HasResumed}
+use Rattle.nb_cli.specs.Answer.{IsJobDone}
 use Rattle.nb_cli.proofs.Causes.{IsCause, cause_still, given_by_resume}
 use Rattle.nb_cli.proofs.Runs.{said_answer}
-use Rattle.nb_cli.proofs.Sessions.{session_done, resume_touches, resume_told, counts_first, counts_session, counts_line}
+use Rattle.nb_cli.proofs.Sessions.{session_done, resume_touches, resume_told, counts_first, counts_session, counts_line, syncs_resume}
 use Rattle.nb_cli.proofs.program.run_resume.Goals as goal
 
 -- ---- why it is refused
@@ -49,6 +50,7 @@ returns-in_err-say-clause-run g c = inr (record {
       (λ tells. record {
         done = c.in_ok-done.done;
         fits = record { time = omega arith; ticks = omega arith; gone = omega arith };
+        there = c.in_ok-done.ensures.there tells;
         could = c.in_ok-done.ensures.ready tells;
         led = c.in_ok-done.ensures.done tells;
         line_is = c.bytes.ensures.value ∙ c.done_line-line.ensures;
@@ -66,6 +68,7 @@ returns-clause-begun g c = record {
       (λ tells. record {
         done = c.in_ok-done.done;
         fits = record { time = omega arith; ticks = omega arith; gone = omega arith };
+        there = c.in_ok-done.ensures.there tells;
         could = c.in_ok-done.ensures.ready tells;
         led = c.in_ok-done.ensures.done tells;
         line_is = c.bytes.ensures.value ∙ c.done_line-line.ensures;
@@ -85,6 +88,7 @@ returns-clause-done g c tells =
     (record {
       done = c.in_ok-done.done;
       fits = record { time = omega arith; ticks = omega arith; gone = omega arith };
+      there = c.in_ok-done.ensures.there tells;
       could = c.in_ok-done.ensures.ready tells;
       led = c.in_ok-done.ensures.done tells;
       line_is = c.bytes.ensures.value ∙ c.done_line-line.ensures;
@@ -107,7 +111,11 @@ returns-in_err-done-clause-counts g c =
     let why = c.in_err-done.field-0.0 in
     let handed_on : c.from_residual-in_err-done.result ≡ Err why = search rules in
     let fine : IsOk c.sync.result = search rules in
-    rw handed_on (counts_session fine c.sync.ensures.ran c.resume.ensures.ran c.in_err-done.was)
+    let m = g.H.Host.meaning in
+    rw handed_on
+    (counts_session fine c.sync.ensures.ran c.resume.ensures.ran c.in_err-done.was
+    (λ told. syncs_resume (m.contents c.sync.new.self).file why (m.tally c.sync.new.self) (m.tally c.resume.new.host)
+    (c.in_err-done.ensures.cause told) (c.in_err-done.ensures.unsynced told)))
 
 pub returns-in_err-say-clause-counts : goal.returns-in_err-say-clause-counts
 returns-in_err-say-clause-counts g c =

@@ -6,10 +6,11 @@ use Rattle.nb_engine.specs.Refusal.{of_host}
 use Rattle.nb_engine.specs.Start.{StartLeads}
 use Rattle.nb_engine.proofs.Callers.{durable_said}
 use Rattle.nb_cli.specs.declared.words.Job.TheVariants as job
-use Rattle.nb_cli.specs.Answer.{HasStarted, IsJobDone}
+use Rattle.nb_cli.specs.Telling.{HasStarted}
+use Rattle.nb_cli.specs.Answer.{IsJobDone}
 use Rattle.nb_cli.proofs.Causes.{IsCause, cause_still, given_by_start, never_spoilt}
 use Rattle.nb_cli.proofs.Runs.{said_answer}
-use Rattle.nb_cli.proofs.Sessions.{started_told, session_done, start_touches, start_told, counts_first, counts_session, counts_line}
+use Rattle.nb_cli.proofs.Sessions.{started_told, session_done, start_touches, start_told, counts_first, counts_session, counts_line, syncs_start}
 use Rattle.nb_cli.proofs.program.run_start.Goals as goal
 
 -- ---- why it is refused
@@ -49,7 +50,7 @@ returns-in_err-say-clause-run g c = inr (record {
       (λ tells. record {
         start = (c.in_ok-begun.ensures.begun tells).0;
         ready = (c.in_ok-begun.ensures.begun tells).1;
-        represents = (c.in_ok-begun.ensures.begun tells).3;
+        begun = (c.in_ok-begun.ensures.begun tells).3;
         line_is = started_told c.bytes.result.now (c.bytes.ensures.value ∙ c.started_line-line.ensures) (c.in_ok-begun.ensures.begun tells).2;
       })
       c.in_err-say.ensures.spoke.leads;
@@ -65,7 +66,7 @@ returns-clause-begun g c = record {
       (λ tells. record {
         start = (c.in_ok-begun.ensures.begun tells).0;
         ready = (c.in_ok-begun.ensures.begun tells).1;
-        represents = (c.in_ok-begun.ensures.begun tells).3;
+        begun = (c.in_ok-begun.ensures.begun tells).3;
         line_is = started_told c.bytes.result.now (c.bytes.ensures.value ∙ c.started_line-line.ensures) (c.in_ok-begun.ensures.begun tells).2;
       })
       c.in_ok-say.ensures.spoke.leads;
@@ -83,7 +84,7 @@ returns-clause-done g c tells =
     (record {
       start = (c.in_ok-begun.ensures.begun tells).0;
       ready = (c.in_ok-begun.ensures.begun tells).1;
-      represents = (c.in_ok-begun.ensures.begun tells).3;
+      begun = (c.in_ok-begun.ensures.begun tells).3;
       line_is = started_told c.bytes.result.now (c.bytes.ensures.value ∙ c.started_line-line.ensures) (c.in_ok-begun.ensures.begun tells).2;
     })
     (c.in_ok-say.ensures.spoke.said tells))
@@ -104,7 +105,10 @@ returns-in_err-begun-clause-counts g c =
     let why = c.in_err-begun.field-0.0 in
     let handed_on : c.from_residual-in_err-begun.result ≡ Err why = search rules in
     let fine : IsOk c.sync.result = search rules in
-    rw handed_on (counts_session fine c.sync.ensures.ran c.start.ensures.ran c.in_err-begun.was)
+    let m = g.H.Host.meaning in
+    rw handed_on
+    (counts_session fine c.sync.ensures.ran c.start.ensures.ran c.in_err-begun.was
+    (λ told. syncs_start why (m.tally c.sync.new.self) (m.tally c.start.new.host) (c.in_err-begun.ensures.unsynced told)))
 
 pub returns-in_err-say-clause-counts : goal.returns-in_err-say-clause-counts
 returns-in_err-say-clause-counts g c =

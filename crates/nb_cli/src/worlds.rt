@@ -1,0 +1,58 @@
+//! The law of any list of sessions. Its function does nothing: its contract is the law.
+
+ghost use Rattle.std.specs.Prelude.{◌≡◌, ◌≤◌, ℕ, List, length, ◌++◌};
+ghost use Rattle.nb_host.specs.declared.host.Channel.TheVariants as channels;
+ghost use Rattle.nb_host.specs.Image.{Image};
+ghost use Rattle.nb_engine.specs.Acknowledged.{Acknowledges};
+ghost use Rattle.nb_format.specs.Snapshot.{IsFinishedSnapshot};
+ghost use Rattle.nb_engine.specs.Histories.{legs_in, length_of, History, run_of, ticks_of, IsHistory};
+ghost use Rattle.nb_engine.specs.Represents.{snap_of, IsSnapshotOf, RepresentsRun, RepresentsHistory, IsSoundImage};
+ghost use Rattle.nb_cli.specs.Worlds.{Session, AreSessions, left_by, asked_for, IsAmong, IsNew, WasStarted, Lasts};
+
+/// What no crash can do.
+///
+/// A folder begins without a run. Commands follow, any number of them, in any order and with any budget of pages
+/// and walks. Each is done, or is refused, or ends at a fault of the device, or is cut off at any moment by a
+/// crash. Then, whatever happened:
+///
+/// - the folder holds no run and no tick was told, or it holds one run;
+/// - that run was started by a `start` among the commands, of the two files as they were then; from then on its
+///   parameters, its first bodies and the time of its begin stay;
+/// - a leg that was begun stays, and each is one that `go` was asked for, in that order;
+/// - a tick that is done stays done, and each tick that was told on standard output is done;
+/// - a finished snapshot of a tick that is done stays, byte for byte, and is the definition's list.
+///
+/// By `nbody`'s clauses `sound` and `extends` its sessions are such a list.
+pub fn law_worlds()
+    // What a folder holds is one run: no two histories are represented by one image.
+    ensures one { (image : Image) (h other : History) → RepresentsRun h image → RepresentsRun other image
+        → h ≡ other }
+
+    // Where it holds a run, one of the sessions started it, of the files as they were then.
+    ensures started { (first : Image) (sessions : List Session) (h : History) → IsNew first
+        → AreSessions first sessions → RepresentsRun h (left_by first sessions) → WasStarted first sessions h }
+
+    // A run lasts: what some sessions left of it, all those behind them go on with.
+    ensures lasts { (first : Image) (before behind : List Session) (h : History) → IsNew first
+        → AreSessions first (before ++ behind) → RepresentsRun h (left_by first before)
+        → Lasts h (left_by first before) (left_by first (before ++ behind)) }
+
+    // Its legs were asked for, and its ticks are the first of those that lead along them.
+    ensures asked { (first : Image) (sessions : List Session) (h : History) → IsNew first
+        → AreSessions first sessions → RepresentsRun h (left_by first sessions)
+        → IsAmong (legs_in h.log.entries) (asked_for sessions) × (ticks_of h ≤ length_of (run_of h)) }
+
+    // A tick that was told is done.
+    ensures told { (first : Image) (sessions : List Session) (k : ℕ) → IsNew first → AreSessions first sessions
+        → Acknowledges ((left_by first sessions).said channels.Out) k → 1 ≤ k
+        → (h : History) × IsHistory h × RepresentsHistory h (left_by first sessions) × (k ≤ ticks_of h) }
+
+    // A finished snapshot of a tick that is done is the run's list after that tick, byte for byte.
+    ensures snapshots { (image : Image) (h : History) (j : ℕ) → RepresentsRun h image → 1 ≤ j → j ≤ ticks_of h
+        → IsFinishedSnapshot (length h.bodies) (image.file (snap_of j))
+        → IsSnapshotOf (run_of h) j (image.file (snap_of j)) }
+
+    // And the folder is sound.
+    ensures sound { (first : Image) (sessions : List Session) → IsNew first → AreSessions first sessions
+        → IsSoundImage (left_by first sessions) }
+{}
