@@ -21,6 +21,7 @@ use Rattle.nb_engine.specs.Start.{Start, HasStart, IsNoStart, IsStartReady, IsSt
 use Rattle.nb_cli.specs.Stop.{IsGiven}
 use Rattle.nb_cli.specs.Once.{IsReady, IsRefused}
 use Rattle.nb_cli.specs.Make.{CanMake, IsThere, IsOfMake}
+use Rattle.nb_cli.specs.Demo.{CanDemo, IsDemoRefused, IsOfDemo}
 use Rattle.nb_cli.proofs.Commands.{one_job}
 use Rattle.nb_cli.specs.Answer.{IsJobReady, IsJobRefused, IsJobSpoilt, HasCause}
 
@@ -80,6 +81,13 @@ not_there can there = elim there.some [
   | inr init ↦ init can.init
 ]
 
+-- Where `demo` can be done nothing else holds.
+not_demo : (files : ℕ → List ℕ) (target : ℕ) {why : Refusal} → CanDemo files target → IsDemoRefused files target why → ⊥
+not_demo files target can (inl run) = fresh_alone run.1.0 0 _ can.fresh (inl run.1.1)
+not_demo files target can (inr (inl damaged)) = fresh_no_damage damaged.0 _ can.fresh damaged.2
+not_demo files target can (inr (inr (inl there))) = not_there can.can there.1
+not_demo files target can (inr (inr (inr far))) = absurd (omega (arith, can.few, far.2))
+
 pub not_refused_job : (files : ℕ → List ℕ) (job : Job) (why : Refusal) → IsJobReady files job → IsJobRefused files job why → ⊥
 not_refused_job files (job.Start pages) why ready refused = not_start ready.1 refused
 not_refused_job files (job.Go target pace) why ready refused = not_gone files target ready refused
@@ -87,6 +95,7 @@ not_refused_job files (job.Resume pace) why ready refused = not_shown ready.0 re
 not_refused_job files (job.Once target) why ready refused = not_refused ready.1 refused
 not_refused_job files job.Show why ready refused = not_shown ready.0 ready.1 refused
 not_refused_job files (job.Make seed count) why ready refused = not_there ready refused
+not_refused_job files (job.Demo seed count target pace) why ready refused = not_demo files target ready refused
 
 pub no_cause : {words : List (List ℕ)} {files : ℕ → List ℕ} {why : Stop} (job : Job)
     → IsJob words job → IsJobReady files job → HasCause words files why → ⊥
@@ -157,6 +166,26 @@ one_go_refusal files target {a = a} (inr first) (inr second) =
     let same = one_journal first.0 second.0 (files journal_file) first.1 second.1 in
     one_leg_refusal target (progress_of second.0) (subst (λ (l : Log). IsNoLeg target (progress_of l) a) same first.2) second.2
 
+one_demo_refusal : (files : ℕ → List ℕ) (target : ℕ) {a b : Refusal} → IsDemoRefused files target a → IsDemoRefused files target b
+    → a ≡ b
+one_demo_refusal files target (inl first) (inl second) = first.0 ∙ sym second.0
+one_demo_refusal files target (inl first) (inr (inl second)) = absurd (not_both first.1.0 second.0 _ first.1.1 second.2)
+one_demo_refusal files target (inl first) (inr (inr (inl second))) = absurd (fresh_alone first.1.0 0 _ second.0 (inl first.1.1))
+one_demo_refusal files target (inl first) (inr (inr (inr second))) = absurd (fresh_alone first.1.0 0 _ second.0 (inl first.1.1))
+one_demo_refusal files target (inr (inl first)) (inl second) = absurd (not_both second.1.0 first.0 _ second.1.1 first.2)
+one_demo_refusal files target (inr (inl first)) (inr (inl second)) =
+    first.1 ∙ ap damaged_journal (one_damage first.0 second.0 _ first.2 second.2) ∙ sym second.1
+one_demo_refusal files target (inr (inl first)) (inr (inr (inl second))) = absurd (fresh_no_damage first.0 _ second.0 first.2)
+one_demo_refusal files target (inr (inl first)) (inr (inr (inr second))) = absurd (fresh_no_damage first.0 _ second.0 first.2)
+one_demo_refusal files target (inr (inr (inl first))) (inl second) = absurd (fresh_alone second.1.0 0 _ first.0 (inl second.1.1))
+one_demo_refusal files target (inr (inr (inl first))) (inr (inl second)) = absurd (fresh_no_damage second.0 _ first.0 second.2)
+one_demo_refusal files target (inr (inr (inl first))) (inr (inr (inl second))) = first.1.shown ∙ sym second.1.shown
+one_demo_refusal files target (inr (inr (inl first))) (inr (inr (inr second))) = absurd (not_there second.1 first.1)
+one_demo_refusal files target (inr (inr (inr first))) (inl second) = absurd (fresh_alone second.1.0 0 _ first.0 (inl second.1.1))
+one_demo_refusal files target (inr (inr (inr first))) (inr (inl second)) = absurd (fresh_no_damage second.0 _ first.0 second.2)
+one_demo_refusal files target (inr (inr (inr first))) (inr (inr (inl second))) = absurd (not_there first.1 second.1)
+one_demo_refusal files target (inr (inr (inr first))) (inr (inr (inr second))) = first.3 ∙ sym second.3
+
 one_job_refusal : (files : ℕ → List ℕ) (job : Job) {a b : Refusal} → IsJobRefused files job a → IsJobRefused files job b → a ≡ b
 one_job_refusal files (job.Start pages) first second = one_start_refusal first second
 one_job_refusal files (job.Go target pace) first second = one_go_refusal files target first second
@@ -164,6 +193,7 @@ one_job_refusal files (job.Resume pace) first second = one_shown first second
 one_job_refusal files (job.Once target) first second = one_refusal first second
 one_job_refusal files job.Show first second = one_shown first second
 one_job_refusal files (job.Make seed count) first second = first.shown ∙ sym second.shown
+one_job_refusal files (job.Demo seed count target pace) first second = one_demo_refusal files target first second
 
 pub one_cause : {words : List (List ℕ)} {files : ℕ → List ℕ} {a b : Stop} → HasCause words files a → HasCause words files b → a ≡ b
 one_cause (inl first) (inl second) = first.0 ∙ sym second.0
@@ -237,3 +267,12 @@ given_by_make refusal.InitThere of_make = tt
 given_by_make refusal.Device of_make = tt
 given_by_make refusal.NoMemory of_make = tt
 given_by_make _ of_make = absurd of_make
+
+pub given_by_demo : (why : Refusal) → IsOfDemo why → IsGiven why
+given_by_demo refusal.Started of_demo = tt
+given_by_demo refusal.InitThere of_demo = tt
+given_by_demo (refusal.TickLimit ticks) of_demo = tt
+given_by_demo refusal.Device of_demo = tt
+given_by_demo (refusal.Damaged place) of_demo = tt
+given_by_demo refusal.NoMemory of_demo = tt
+given_by_demo _ of_demo = absurd of_demo

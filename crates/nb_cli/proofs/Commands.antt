@@ -29,6 +29,7 @@ name_of (job.Resume pace) = codes "resume"
 name_of job.Show = codes "show"
 name_of (job.Once target) = codes "once"
 name_of (job.Make seed count) = codes "make"
+name_of (job.Demo seed count target pace) = codes "demo"
 
 name_is : (name : List ℕ) (numbers : Numbers) (a : Job) → IsNamed name numbers a → name ≡ name_of a
 name_is name numbers (job.Start pages) is = is.0
@@ -37,6 +38,7 @@ name_is name numbers (job.Resume pace) is = is.0
 name_is name numbers job.Show is = is.0
 name_is name numbers (job.Once target) is = is.0
 name_is name numbers (job.Make seed count) is = is.0
+name_is name numbers (job.Demo seed count target pace) is = is.0
 
 -- the sum of the first two letters, which no two names share
 abbrev letters : List ℕ → ℕ
@@ -67,6 +69,14 @@ by_letters name numbers (job.Make s n) (job.Make t m) first second same =
     let count : n ≡ m = cc in
     ap (λ (x : ℕ). job.Make x n) seed ∙ ap (job.Make t) count
 by_letters name numbers (job.Make s n) _ first second same = absurd (omega (arith, same))
+by_letters name numbers (job.Demo s n t p) (job.Demo u m v q) first second same =
+    let both : s ∷ n ∷ t ∷ [] ≡ u ∷ m ∷ v ∷ [] = sym first.1 ∙ second.1 in
+    let seed : s ≡ u = cc in
+    let count : n ≡ m = cc in
+    let target : t ≡ v = cc in
+    ap (λ (x : ℕ). job.Demo x n t p) seed ∙ ap (λ (x : ℕ). job.Demo u x t p) count
+    ∙ ap (λ (x : ℕ). job.Demo u m x p) target ∙ ap (job.Demo u m v) (same_pace numbers p q first.3 second.3)
+by_letters name numbers (job.Demo s n t p) _ first second same = absurd (omega (arith, same))
 
 pub one_job : (words : List (List ℕ)) (a b : Job) → IsJob words a → IsJob words b → a ≡ b
 one_job words a b first second =
@@ -89,6 +99,7 @@ paced words (job.Resume pace) is = is.named.2.range
 paced words job.Show is = tt
 paced words (job.Once target) is = tt
 paced words (job.Make seed count) is = is.named.2
+paced words (job.Demo seed count target pace) is = (is.named.2, is.named.3.range)
 
 -- ---- the numbers that words spell
 

@@ -27,7 +27,7 @@ use Rattle.nb_cli.proofs.DemoTexts.{front_none, front_more, front_behind, lines_
 
 -- ---- files that calls leave alone
 
-two_apart : (a b n : ℕ) → a ≢ n → b ≢ n → Contains (a ∷ b ∷ []) n → ⊥
+pub two_apart : (a b n : ℕ) → a ≢ n → b ≢ n → Contains (a ∷ b ∷ []) n → ⊥
 two_apart a b n first second (zero, below, is) = first is
 two_apart a b n first second (suc zero, below, is) = second is
 two_apart a b n first second (suc (suc k), below, is) = absurd (omega arith)
@@ -38,14 +38,14 @@ three_apart a b c n first second third (suc zero, below, is) = second is
 three_apart a b c n first second third (suc (suc zero), below, is) = third is
 three_apart a b c n first second third (suc (suc (suc k)), below, is) = absurd (omega arith)
 
-kept_made : {seed count : ℕ} {old new : ℕ → List ℕ} → new params_file ≡ old params_file → new init_file ≡ old init_file
+pub kept_made : {seed count : ℕ} {old new : ℕ → List ℕ} → new params_file ≡ old params_file → new init_file ≡ old init_file
     → HasMade seed count old → HasMade seed count new
 kept_made {seed = seed} {count = count} params init made = record {
   params = params ∙ made.params;
   init = subst (λ (bytes : List ℕ). IsSnapshot bytes (made_bodies seed count) 0) (sym init) made.init;
 }
 
-same_made : {seed count : ℕ} {old new : ℕ → List ℕ} → new ≡ old → HasMade seed count old → HasMade seed count new
+pub same_made : {seed count : ℕ} {old new : ℕ → List ℕ} → new ≡ old → HasMade seed count old → HasMade seed count new
 same_made same made = kept_made (ap (λ (f : ℕ → List ℕ). f params_file) same) (ap (λ (f : ℕ → List ℕ). f init_file) same) made
 
 file_at : {old new : ℕ → List ℕ} → new ≡ old → (number : ℕ) → new number ≡ old number
@@ -267,6 +267,7 @@ module _ (honest : Bool) (seed count target : ℕ) where
           can = can;
           does = inl (record {
             can = part.can;
+            first = part.first;
             whole = part.whole;
             others = λ number params init. part.others.others number (two_apart params_file init_file number (λ is. params (sym is)) (λ is. init (sym is)));
             out = out;
@@ -351,6 +352,14 @@ module _ (honest : Bool) (seed count target : ℕ) where
         };
         made = same_made says.files led.made;
         represents = same_represents (played target (demo_history seed count target)) says.files led.represents;
+        led = record {
+          begun = middle;
+          ended = gone.between;
+          done = gone.done.done;
+          led = subst (λ (n : ℕ). IsLed n (demo_history seed count target) middle gone.done.done gone.between) ticks_are
+              (gone.done.led (started start_made) begun.history begun.represents);
+          files = says.files ∙ gone.files;
+        };
         out = says.said ∙ ap (λ (l : List ℕ). l ++ sum_line) (said_before begun led)
             ∙ append_assoc (old.said channels.Out) (first_line ++ tick_lines ++ last_line) sum_line;
         err = says.others channels.Err Out≢Err ∙ led.err ∙ begun.err;

@@ -33,12 +33,15 @@ use Rattle.nb_cli.specs.declared.words.Job.{Job}
 use Rattle.nb_cli.specs.declared.words.Job.TheVariants as job
 use Rattle.nb_cli.specs.Telling.{LeadsThenTells}
 use Rattle.nb_cli.specs.Once.{once_file}
-use Rattle.nb_cli.specs.Make.{IsMakeUnderWay}
+use Rattle.nb_cli.specs.Make.{made_start, IsMadeFrom, IsMakeUnderWay}
+use Rattle.nb_cli.specs.Demo.{CanDemo, demo_text, IsDemoUnderWay}
 use Rattle.nb_cli.specs.Words.{IsJob}
 use Rattle.nb_cli.specs.Answer.{IsUntouched, IsPartlyDone, IsJobPartlyDone, Touches, RunTouches, HasBegun, HasBegunOrNot, WasTold}
-use Rattle.nb_cli.specs.Worlds.{IsLater, KeepsSnapshots, TakesTicks, MayAdd, MayStart, GoesFurther, IsLeftAlone, Extends, ExtendsOrNot}
+use Rattle.nb_cli.specs.Worlds.{IsLater, KeepsSnapshots, TakesTicks, MayAdd, StartsDemo, MayStart, GoesFurther, start_files, IsLeftAlone, Extends, ExtendsOrNot}
 use Rattle.nb_cli.proofs.Commands.{one_job}
+use Rattle.nb_cli.proofs.DemoStages.{IsStartedOn, two_apart, kept_made, same_made, fresh_made, started_on}
 use Rattle.nb_cli.proofs.Lasting.{no_run, later_same, later_then}
+use Rattle.nb_cli.proofs.MadeStarts.{made_ready, made_only}
 
 -- ---- what is said
 
@@ -46,7 +49,7 @@ use Rattle.nb_cli.proofs.Lasting.{no_run, later_same, later_then}
 abbrev Grows : List ℕ → List ℕ → Type 0
 Grows old new = (more : List ℕ) × (new ≡ old ++ more)
 
-same_grows : (old new : List ℕ) → new ≡ old → Grows old new
+pub same_grows : (old new : List ℕ) → new ≡ old → Grows old new
 same_grows old new same = ([], same ∙ sym (append-nil old))
 
 grows_then : (old between new : List ℕ) → Grows old between → Grows between new → Grows old new
@@ -80,6 +83,7 @@ adds_none (job.Resume pace) = refl
 adds_none job.Show = refl
 adds_none (job.Once target) = refl
 adds_none (job.Make seed count) = refl
+adds_none (job.Demo seed count target pace) = refl
 
 -- the run is where it was
 still_there : (job : Job) (h : History) (old new : Image) → IsHistory h → RepresentsRun h new → KeepsSnapshots h old new
@@ -95,7 +99,7 @@ still_there job h old new is represents kept = record {
   kept = kept;
 }
 
-extends_same : (job : Job) (old new : Image) → new.file ≡ old.file → Grows (old.said channels.Out) (new.said channels.Out)
+pub extends_same : (job : Job) (old new : Image) → new.file ≡ old.file → Grows (old.said channels.Out) (new.said channels.Out)
     → Extends job old new
 extends_same job old new files grows =
     let at = files_at old new files in
@@ -121,6 +125,16 @@ begun_told (job.Resume pace) old between new files never = absurd never
 begun_told job.Show old between new files never = absurd never
 begun_told (job.Once target) old between new files never = absurd never
 begun_told (job.Make seed count) old between new files never = absurd never
+begun_told (job.Demo seed count target pace) old between new files may = record {
+  can = may.can;
+  made = same_made files may.made;
+  legs = may.legs;
+  asked = may.asked;
+  run = may.run;
+  is = may.is;
+  represents = run_same may.run between new files may.represents;
+  is_later = may.is_later;
+}
 
 -- something more is said
 extends_told : (job : Job) (old between new : Image) → Extends job old between → new.file ≡ between.file
@@ -159,15 +173,14 @@ extends_then job old new extends then =
 
 -- ---- `start`
 
--- None of the three files that `start` writes, the journal, the first slot and that of drifted bodies, is one that it leaves alone.
-start_apart : (number : ℕ) → (number ≤ 1) ⊎ (number ≡ 4) ⊎ (6 ≤ number)
-    → Contains (journal_file ∷ 3 ∷ 5 ∷ []) number → ⊥
+-- `start` writes none of these files.
+start_apart : (number : ℕ) → (number ≤ 1) ⊎ (6 ≤ number) → Contains start_files number → ⊥
 start_apart number alone among =
     All-contains (λ file. file ≢ number) (journal_file ∷ 3 ∷ 5 ∷ []) number
     (All-from_recursion (λ file. file ≢ number) (journal_file ∷ 3 ∷ 5 ∷ [])
     (apart 2 (omega arith) (inl (omega arith)) alone, (apart 3 (omega arith) (inl (omega arith)) alone, (apart 5 (omega arith) (inr refl) alone, tt))))
     among refl where
-      apart : (file : ℕ) → 2 ≤ file → (file ≤ 3) ⊎ (file ≡ 5) → (number ≤ 1) ⊎ (number ≡ 4) ⊎ (6 ≤ number) → file ≢ number
+      apart : (file : ℕ) → 2 ≤ file → (file ≤ 3) ⊎ (file ≡ 5) → (number ≤ 1) ⊎ (6 ≤ number) → file ≢ number
       apart file low high alone same = absurd (omega (arith, low, high, alone, same))
 
 start_extends : (pages : ℕ) (old new : Image) → StartLeads true old new → Extends (job.Start pages) old new
@@ -186,7 +199,7 @@ start_extends pages old new leads = record {
       represents = run.2;
     })
   ];
-  others = λ number alone. leads.others.others number (start_apart number alone);
+  others = λ number alone. leads.others.others number alone;
   inputs = λ none number few. leads.others.others number (start_apart number (inl few));
   told = same_grows (old.said channels.Out) (new.said channels.Out) (ap (λ (f : Channel → List ℕ). f channels.Out) leads.others.said);
 }
@@ -327,6 +340,115 @@ make_extends seed count old new make = record {
   told = front_grows _ (old.said channels.Out) (new.said channels.Out) make.out;
 }
 
+-- ---- `demo`
+
+-- the run of what was made, where it is started
+demo_begun : (seed count target : ℕ) (old made between new : Image) → CanDemo old.file target → IsMadeFrom seed count old made
+    → StartLeads true made between → new.file ≡ between.file → IsFresh (new.file journal_file) ⊎ StartsDemo seed count target old new
+demo_begun seed count target old made between new can makes leads files =
+    let fresh = fresh_made can makes in
+    elim (leads.begins refl fresh) [
+      | inl still ↦ inl (subst IsFresh (sym (files_at between new files journal_file)) still)
+      | inr run ↦
+          let start = made_start seed count in
+          let ready = made_ready seed count made.file makes.made fresh in
+          let same = made_only seed count makes.made run.1 in
+          inr (record {
+            can = can;
+            made = same_made files (kept_made
+                (leads.others.others params_file (start_apart params_file (inl (omega arith))))
+                (leads.others.others init_file (start_apart init_file (inl (omega arith)))) makes.made);
+            legs = [];
+            asked = inl refl;
+            run = started start;
+            is = started_history made.file start ready.starts ready.light;
+            represents = run_same (started start) between new files
+                (subst (λ (s : Start). RepresentsRun (started s) between) same run.2);
+            is_later = later_same (started start);
+          })
+    ]
+
+-- and where it is led
+demo_led : (seed count target : ℕ) (old middle between new : Image) → CanDemo old.file target
+    → IsStartedOn true seed count target old middle → GoLeads true target middle between → new.file ≡ between.file
+    → StartsDemo seed count target old new
+demo_led seed count target old middle between new can begun leads files =
+    let first = started (made_start seed count) in
+    let apart = leads.session.apart in
+    let made = same_made files
+    (kept_made (apart.files params_file (inl (omega arith))) (apart.files init_file (inl (omega arith))) begun.made) in
+    elim (leads.goes refl first begun.history begun.represents) [
+      | inl goes ↦ record {
+        can = can;
+        made = made;
+        legs = [];
+        asked = inl refl;
+        run = played goes.done first;
+        is = history-played goes.done first begun.history;
+        represents = run_same (played goes.done first) between new files goes.represents;
+        is_later = later_played goes.done first;
+      }
+      | inr goes ↦ record {
+        can = can;
+        made = made;
+        legs = target ∷ [];
+        asked = inr refl;
+        run = played goes.1.done (legged target first);
+        is = history-played goes.1.done (legged target first) goes.0;
+        represents = run_same (played goes.1.done (legged target first)) between new files goes.1.represents;
+        is_later = later_on (target ∷ []) goes.1.done first (legged target first) (later_legged target first);
+      }
+    ]
+
+demo_starts : (seed count target : ℕ) (old new : Image) → IsDemoUnderWay true seed count target old new
+    → IsFresh (new.file journal_file) ⊎ StartsDemo seed count target old new
+demo_starts seed count target old new demo = elim demo.does [
+  | inl making ↦ inl (subst IsFresh (sym (making.others journal_file (omega arith) (omega arith))) demo.can.fresh)
+  | inr makes ↦ elim makes.next [
+    | inl then ↦ demo_begun seed count target old makes.made then.between new demo.can makes.makes then.leads then.files
+    | inr does ↦
+        let begun = started_on true seed count target demo.can makes.makes does.does in
+        elim does.next [
+          | inl then ↦ inr (demo_led seed count target old does.between then.between new demo.can begun then.leads then.files)
+          | inr last ↦ inr (demo_led seed count target old does.between last.does.between new demo.can begun last.does.leads
+              (last.next.files ∙ last.does.files))
+        ]
+  ]
+]
+
+-- files beside those of a run, which its ticks leave alone
+demo_beside : (seed count target number : ℕ) (old new : Image) → (8 ≤ number) × (number < 16)
+    → IsDemoUnderWay true seed count target old new → new.file number ≡ old.file number
+demo_beside seed count target number old new beside demo = elim demo.does [
+  | inl making ↦ making.others number (λ same. absurd (omega (arith, beside.0, same))) (λ same. absurd (omega (arith, beside.0, same)))
+  | inr makes ↦
+      let made = makes.makes.others.others number
+      (two_apart params_file init_file number (λ same. omega (arith, beside.0, same)) (λ same. omega (arith, beside.0, same))) in
+      elim makes.next [
+        | inl then ↦ files_at then.between new then.files number ∙ begins then.between then.leads ∙ made
+        | inr does ↦
+            let begun = files_at does.does.between does.between does.does.files number ∙ begins does.does.between does.does.leads ∙ made in
+            elim does.next [
+              | inl then ↦ files_at then.between new then.files number ∙ then.leads.session.apart.files number (inr beside) ∙ begun
+              | inr last ↦
+                  files_at last.between new last.next.files number ∙ files_at last.does.between last.between last.does.files number
+                  ∙ last.does.leads.session.apart.files number (inr beside) ∙ begun
+            ]
+      ]
+] where
+  begins : {made : Image} (between : Image) → StartLeads true made between → between.file number ≡ made.file number
+  begins between leads = leads.others.others number (start_apart number (inr (omega (arith, beside.0))))
+
+pub demo_extends : (seed count target : ℕ) (pace : Pace) (old new : Image) → IsDemoUnderWay true seed count target old new
+    → Extends (job.Demo seed count target pace) old new
+demo_extends seed count target pace old new demo = record {
+  goes = λ h is represents. absurd (no_run h old demo.can.fresh represents);
+  starts = λ fresh. demo_starts seed count target old new demo;
+  others = λ number alone. demo_beside seed count target number old new alone demo;
+  inputs = λ none number few. absurd (none demo.can.can);
+  told = front_grows (demo_text seed count target) (old.said channels.Out) (new.said channels.Out) (demo.out refl);
+}
+
 -- ---- every command
 
 job_extends : (job : Job) (old new : Image) → IsSoundImage old → IsJobPartlyDone true old.file job old new → Extends job old new
@@ -341,6 +463,7 @@ job_extends (job.Once target) old new sound then = once_extends target then.0 ol
 job_extends job.Show old new sound then =
     extends_same job.Show old new then.2.files (front_grows _ (old.said channels.Out) (new.said channels.Out) then.2.out)
 job_extends (job.Make seed count) old new sound then = make_extends seed count old new then
+job_extends (job.Demo seed count target pace) old new sound then = demo_extends seed count target pace old new then
 
 touches_extends : (words : List (List ℕ)) (job : Job) (old new : Image) → IsJob words job → IsSoundImage old
     → Touches true words old.file old new → Extends job old new

@@ -15,6 +15,7 @@ use Rattle.nb_engine.specs.Start.{Start, started}
 use Rattle.nb_engine.proofs.Callers.{ticks-within}
 use Rattle.nb_cli.specs.declared.words.Job.{Job}
 use Rattle.nb_cli.specs.declared.words.Job.TheVariants as job
+use Rattle.nb_cli.specs.Make.{made_start}
 use Rattle.nb_cli.specs.Worlds.{IsLater, KeepsSnapshots, MayAdd, MayStart, Session, AreSessions, left_by, asked_by, asked_for, IsAmong, IsNew, IsStartOf, WasStarted, Lasts}
 
 -- ---- one image, one run
@@ -154,6 +155,7 @@ added_asked (job.Resume pace) legs none = subst (λ (l : List ℕ). IsAmong l []
 added_asked job.Show legs none = subst (λ (l : List ℕ). IsAmong l []) (sym none) tt
 added_asked (job.Once target) legs none = subst (λ (l : List ℕ). IsAmong l []) (sym none) tt
 added_asked (job.Make seed count) legs none = subst (λ (l : List ℕ). IsAmong l []) (sym none) tt
+added_asked (job.Demo seed count target pace) legs none = subst (λ (l : List ℕ). IsAmong l (target ∷ [])) (sym none) tt
 
 -- Behind an image that represents a run its legs are followed by legs that were asked for.
 pub record AreAsked (before legs asked : List ℕ) : Type 0 where
@@ -205,6 +207,15 @@ begun_by (job.Resume pace) old new never = absurd never
 begun_by job.Show old new never = absurd never
 begun_by (job.Once target) old new never = absurd never
 begun_by (job.Make seed count) old new never = absurd never
+begun_by (job.Demo seed count target pace) old new may = record {
+  start = made_start seed count;
+  is = (may.can, refl);
+  legs = may.legs;
+  run = may.run;
+  represents = may.represents;
+  is_later = may.is_later;
+  asked = subst (λ (l : List ℕ). IsAmong l (target ∷ [])) (sym may.is_later.legs) (none_or_one may.legs target may.asked);
+}
 
 pub all_asked : (first : Image) (sessions : List Session) (h : History) → IsFresh (first.file journal_file) → AreSessions first sessions
     → RepresentsRun h (left_by first sessions) → IsAmong (legs_in h.log.entries) (asked_for sessions)

@@ -40,6 +40,7 @@ touched_by_files {old = old} (inr partly) =
     record {
       touches = inr (record {
         can = partly.can;
+        first = partly.first;
         whole = partly.whole;
         others = λ number first second. partly.others.others number (neither number first second);
         out = (0, omega arith, out ∙ sym (append-nil (old.said channels.Out)));
@@ -58,6 +59,7 @@ touched_by_line {seed = seed} {count = count} {old = old} {now = now} line is le
     record {
       touches = inr (record {
         can = made.can;
+        first = inr whole.params;
         whole = inr whole;
         others = λ number first second.
             ap (λ (f : ℕ → List ℕ). f number) part.2.files ∙ others_still leads number first second;

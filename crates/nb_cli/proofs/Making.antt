@@ -133,6 +133,7 @@ params_partly : {seed count : ℕ} {old now : Image} → CanMake old.file → Fi
     → IsPartlyMade seed count old now
 params_partly can step = record {
   can = can;
+  first = inl (step.others init_file apart ∙ can.init);
   whole = inl (empty_unfinished _ (step.others init_file apart ∙ can.init));
   others = params_others step;
 }
@@ -143,6 +144,7 @@ bodies_partly : {seed count : ℕ} {old middle now : Image} → CanMake old.file
     → FileBecomes init_file (IsWritten (made_bodies seed count) 0) middle now → IsPartlyMade seed count old now
 bodies_partly can first text second = record {
   can = can;
+  first = inr (second.others params_file apart_too ∙ text);
   whole = elim (second.file (empty_unfinished _ (first.others init_file apart ∙ can.init))) [
     | inl is ↦ inr (record { params = second.others params_file apart_too ∙ text; init = is })
     | inr still ↦ inl still

@@ -301,6 +301,23 @@ counts_session {m = m} {old = old} {middle = middle} {new = new} {why = why} ok 
       inside : {T : Type 0} {a b : Refusal} → ◌≡◌ {A = Result T Refusal} (Err a) (Err b) → a ≡ b
       inside same = cc
 
+-- a session that said its lines itself
+pub counts_whole : {H S T : Type 0} {m : HostModel H} {one two : Image → Image → Type 0} {old middle new : H}
+    {first : Result S HostError} {result : Result T Refusal} → IsOk first → RanSyncing m 1 Fault one old middle first
+    → RanSession m two middle new result → IsOk result → CountsRun m None old new (Ok tt)
+counts_whole {m = m} {new = new} ok before after done =
+    let same = before.spared (ok_is_no_error ok) in
+    record {
+      count = subst (λ n. n ≤ m.faults new) same after.count;
+      rose = λ err. absurd (never err);
+      spared = λ _. after.spared (ok_is_no_error done) ∙ same;
+      refused = λ told. after.refused told ∙ ap (λ (f : Channel → ℕ). f channels.Err) before.refused;
+      heard = λ told fine. after.heard told done ∙ ap (λ (f : Channel → ℕ). f channels.Out) before.refused;
+      syncs = λ told. omega (arith, after.synced told done, before.synced told ok);
+    } where
+      never : ◌≡◌ {A = Result (Unit {0}) Refusal} (Ok tt) (Err refusal.Device) → ⊥
+      never same = cc
+
 -- its line, behind the session
 pub counts_line : {H S T : Type 0} {m : HostModel H} {one two : Image → Image → Type 0} {old middle last new : H}
     {first : Result S HostError} {result : Result T Refusal} {line : List ℕ} {answer : Result (Unit {0}) HostError} → IsOk first

@@ -1,8 +1,11 @@
 -- A folder that is sound stays so, whatever command runs.
-use Rattle.std.proofs.Common.{◌≡◌, ◌≢◌, inl, inr, ℕ, ◌+◌, ◌%◌, ◌^◌, ◌<◌, ◌≤◌, Bool, true, Some, List, [], ◌∷◌, length, refl, ap, sym, subst, arith, IsTrue}
+use Rattle.std.proofs.Common.{◌≡◌, ◌≢◌, ◌∙◌, inl, inr, ℕ, ◌+◌, ◌%◌, ◌^◌, ◌<◌, ◌≤◌, Bool, true, Some, List, [], ◌∷◌, ◌++◌, length, refl, ap, sym, subst, arith, IsTrue}
+use Rattle.std.specs.Prelude.{All}
 use Rattle.std.specs.Int.{abs_diff}
+use Rattle.std.proofs.lemmas.Bool.{cases_eq}
 use Rattle.std.proofs.lemmas.Bool.Decides.{nat_tests}
-use Rattle.std.proofs.lemmas.List.Sums.{count_by-le-length}
+use Rattle.std.proofs.lemmas.List.{take_all}
+use Rattle.std.proofs.lemmas.List.Sums.{count_by-le-length, sum_by-le}
 use Rattle.nb_host.specs.declared.host.Channel.{Channel}
 use Rattle.nb_host.specs.declared.host.Channel.TheVariants as channels
 use Rattle.nb_host.specs.Crashes.{EverySince}
@@ -15,6 +18,7 @@ use Rattle.nb_model.specs.Legs.{directions_to}
 use Rattle.nb_model.specs.Limits.{most_bodies, most_ticks}
 use Rattle.nb_format.specs.Digits.{number_of}
 use Rattle.nb_format.specs.Lines.{made_line}
+use Rattle.nb_format.specs.Snapshot.{AreStoredBodies}
 use Rattle.nb_format.proofs.Snapshots.{snapshot_whole}
 use Rattle.nb_journal.specs.declared.entry.Entry.{Entry}
 use Rattle.nb_journal.specs.declared.entry.Entry.TheVariants.{Leg, Tick}
@@ -29,13 +33,15 @@ use Rattle.nb_engine.specs.Represents.{snap_of, RepresentsHistory, IsSoundImage}
 use Rattle.nb_engine.specs.Sessions.{GoLeads, ResumeLeads}
 use Rattle.nb_engine.specs.Start.{Start, started, StartLeads}
 use Rattle.nb_engine.specs.Steps.{played, GoesOn, SaidFrontOf}
-use Rattle.nb_engine.proofs.Callers.{LineTellsOne, told_goes, small_log, ticks-legged, told_other, append_is_other, started_is_other, done_is_other, once_is_other, folder_is_other, made_is_other, params_are_other, spared, represents_kept, history-played, started_history, length-steps}
+use Rattle.nb_engine.proofs.Callers.{LineTellsOne, told_goes, small_log, ticks-legged, told_other, append_is_other, started_is_other, done_is_other, once_is_other, folder_is_other, made_is_other, demo_is_other, params_are_other, spared, represents_kept, history-played, started_history, length-steps}
 use Rattle.nb_cli.specs.declared.words.Job.{Job}
 use Rattle.nb_cli.specs.declared.words.Job.TheVariants as job
 use Rattle.nb_cli.specs.Telling.{HasStarted, HasGone, HasResumed, IsDoneThenTold, LeadsThenTells}
 use Rattle.nb_cli.specs.Answer.{IsPartlyDone, IsJobPartlyDone, Touches}
 use Rattle.nb_cli.specs.Make.{IsMakeUnderWay}
+use Rattle.nb_cli.specs.Demo.{coordinate_sum, demo_list, summary_line, IsDemoUnderWay}
 use Rattle.nb_cli.proofs.Commands.{paced, once_fits}
+use Rattle.nb_cli.proofs.DemoStages.{IsLedOn, fresh_made, started_on, led_on}
 use Rattle.nb_cli.specs.Once.{once_file, ticks_to as ticks_from, list_at, IsReady}
 use Rattle.nb_cli.specs.Show.{show_text}
 use Rattle.nb_cli.specs.Words.{IsJob}
@@ -205,6 +211,79 @@ sound_make {count = count} {old = old} few make (inl fresh) =
     )
 sound_make few make (inr run) = absurd (no_init run.2 make.can.init)
 
+-- ---- `demo`
+
+-- a session that is done and told is one that leads there and tells a front, all of it
+told_whole : {by : Image → Image → Type 0} {Did : Image → Image → List ℕ → Type 0} {old new : Image} → IsDoneThenTold by Did old new
+    → LeadsThenTells by Did old new
+told_whole told = record {
+  between = told.between;
+  leads = told.leads;
+  files = told.files;
+  told = inr (
+    told.line,
+    told.done,
+    (
+      length told.line,
+      omega arith,
+      told.out ∙ ap (λ (l : List ℕ). told.between.said channels.Out ++ l) (sym (take_all (length told.line) told.line (omega arith))),
+    ),
+  );
+}
+
+-- the coordinates of stored bodies
+small_sum : (bodies : List Body) → AreStoredBodies bodies → coordinate_sum bodies < 10 ^ 64
+small_sum bodies stored =
+    let sum = sum_by-le (λ (b : Body). b.at.x + b.at.y + b.at.z) (2 ^ 42) bodies small in
+    omega (arith, sum, stored.count) where
+      small : All (λ (b : Body). b.at.x + b.at.y + b.at.z ≤ 2 ^ 42) bodies
+      small i d below = let box = (stored.each i d below).valid.at in omega (arith, box.x, box.y, box.z)
+
+-- the bodies of the last snapshot
+stored_list : (seed count target : ℕ) {middle last : Image} → IsLedOn true seed count target middle last
+    → AreStoredBodies (demo_list seed count target)
+stored_list seed count target led = elim (cases_eq target 0) [
+  | inl none ↦ (led.snapshot init_file (λ _. refl) (λ some. absurd (some none))).stored
+  | inr some ↦ (led.snapshot (snap_of target) (λ none. absurd (some none)) (λ _. refl)).stored
+]
+
+told_sum : (seed count target : ℕ) → count ≤ most_bodies → AreStoredBodies (demo_list seed count target)
+    → IsOtherText (summary_line seed count target)
+told_sum seed count target few stored =
+    let bodies = demo_list seed count target in
+    let gone = count_by-le-length (λ (b : Body). b.out) bodies in
+    demo_is_other count (escaped_count bodies) (coordinate_sum bodies) (omega (arith, few)) (omega (arith, gone, stored.count))
+    (small_sum bodies stored)
+
+pub sound_demo : LineTellsOne → (seed count target : ℕ) {old new : Image} → count ≤ most_bodies
+    → IsDemoUnderWay true seed count target old new → IsSoundImage old → IsSoundImage new
+sound_demo law seed count target {old = old} {new = new} few demo (inl fresh) = elim demo.does [
+  | inl making ↦ fresh_still old new (making.others journal_file (omega arith) (omega arith)) making.out fresh
+  | inr makes ↦
+      let made : IsSoundImage makes.made = inl (
+        fresh_made demo.can makes.makes,
+        subst (IsToldUpTo 0) (sym (ap (λ (f : Channel → List ℕ). f channels.Out) makes.makes.others.said)) fresh.1,
+      ) in
+      elim makes.next [
+        | inl then ↦ sound_then (λ between leads. sound_start made leads) (λ between line did. told_start did) then
+        | inr does ↦
+            let begun =
+            sound_then (λ between leads. sound_start made leads) (λ between line did. told_start did) (told_whole does.does) in
+            elim does.next [
+              | inl then ↦
+                  sound_then (λ between leads. sound_go law {target = target} begun leads) (λ between line did. told_go did) then
+              | inr last ↦
+                  let gone =
+                  sound_then (λ between leads. sound_go law {target = target} begun leads) (λ between line did. told_go did)
+                  (told_whole last.does) in
+                  let led = led_on true seed count target (started_on true seed count target demo.can makes.makes does.does) last.does in
+                  sound_said (told_sum seed count target few (stored_list seed count target led)) last.next.files last.next.out gone
+            ]
+      ]
+]
+sound_demo law seed count target {old = old} few demo (inr run) =
+    absurd (fresh_alone run.0.log 0 (old.file journal_file) demo.can.fresh (inl run.2.run.journal.journal))
+
 job_sound : LineTellsOne → (words : List (List ℕ)) (files : ℕ → List ℕ) (job : Job) {old new : Image} → IsJob words job → IsSoundImage old
     → IsJobPartlyDone true files job old new → IsSoundImage new
 job_sound law words files (job.Start pages) is sound then =
@@ -217,6 +296,8 @@ job_sound law words files (job.Once target) is sound then = sound_once target th
 job_sound law words files job.Show is sound then =
     sound_said (show_is_other then.0 then.1.lawful) then.2.files then.2.out sound
 job_sound law words files (job.Make seed count) is sound then = sound_make (paced words (job.Make seed count) is) then sound
+job_sound law words files (job.Demo seed count target pace) is sound then =
+    sound_demo law seed count target (paced words (job.Demo seed count target pace) is).0 then sound
 
 -- ---- the program
 

@@ -32,8 +32,9 @@ use Rattle.nb_cli.specs.Stop.{status_of, stop_status, IsWithoutCause, IsSayable}
 use Rattle.nb_cli.specs.Once.{once_file, ticks_to, list_at}
 use Rattle.nb_cli.specs.Show.{show_text}
 use Rattle.nb_engine.specs.Files.{init_file}
-use Rattle.nb_cli.specs.Make.{HasMade, IsMakeUnderWay}
-use Rattle.nb_cli.specs.Telling.{HasGone, LeadsThenTells}
+use Rattle.nb_cli.specs.Make.{HasMade, ParamsComeFirst, IsMaking, IsMakeUnderWay}
+use Rattle.nb_cli.specs.Telling.{HasGone, LeadsThenTells, TellsFront}
+use Rattle.nb_cli.specs.Demo.{demo_text, LeadsOn, StartsOn, IsDemoUnderWay}
 use Rattle.nb_cli.specs.Answer.{statuses, Yields, ComesWhere, ComesByCause, HasCause, HasCauseOf, HasSpoilt, IsSpoiltBy, IsJobReady, IsJobRefused, IsJobDone, IsJobPartlyDone, BringsUp, BringsUpWords, IsUntouched, IsLeftSo, LeavesAll, Touches, RunTouches, JobTouches, HasBegun, HasBegunOrNot, JobBegins, WasTold}
 use Rattle.nb_cli.proofs.Commands.{one_job}
 use Rattle.nb_cli.proofs.Causes.{IsCause, no_cause, one_cause, not_gone, not_shown, not_refused_job}
@@ -94,6 +95,7 @@ job_ready honest old now (job.Resume pace) done = done.done.could
 job_ready honest old now (job.Once target) done = (done.0, done.1)
 job_ready honest old now job.Show done = (done.0, done.1)
 job_ready honest old now (job.Make seed count) done = done.can
+job_ready honest old now (job.Demo seed count target pace) done = done.can
 
 -- The run of a finished command met no cause.
 pub finished_no_cause : {honest : Bool} {words : List (List ℕ)} {old now : Image} {why : Stop} → HasFinished honest words old now
@@ -263,6 +265,7 @@ make_told {seed} {count} {old} {middle} {now} make part =
     let spared = part.2.others channels.Out Err≢Out in
     record {
       can = make.can;
+      first = subst (ParamsComeFirst count) (sym part.2.files) make.first;
       whole = subst (λ (f : ℕ → List ℕ). IsUnfinished (f init_file) ⊎ HasMade seed count f) (sym part.2.files) make.whole;
       others = λ number first second. ap (λ (f : ℕ → List ℕ). f number) part.2.files ∙ make.others number first second;
       out = subst (λ (said : List ℕ). SaidFrontOf (made_line count) (old.said channels.Out) said) (sym spared) make.out;
@@ -271,6 +274,54 @@ make_told {seed} {count} {old} {middle} {now} make part =
         | inr made ↦ inr (subst (λ (f : ℕ → List ℕ). HasMade seed count f) (sym part.2.files) made)
       ];
     }
+
+-- the same behind `demo`, however far it came
+front_told : {text : List ℕ} {old middle now : Image} {line : List ℕ} → TellsFront text old middle
+    → SaysPart channels.Err line middle now → TellsFront text old now
+front_told {text = text} {old = old} front part = record {
+  files = part.2.files ∙ front.files;
+  out = subst (λ (said : List ℕ). SaidFrontOf text (old.said channels.Out) said) (sym (part.2.others channels.Out Err≢Out)) front.out;
+}
+
+leading_told : (honest : Bool) (seed count target : ℕ) {old middle now : Image} {line : List ℕ}
+    → LeadsOn honest seed count target old middle → SaysPart channels.Err line middle now → LeadsOn honest seed count target old now
+leading_told honest seed count target (inl then) part = inl (then_told then part)
+leading_told honest seed count target (inr does) part =
+    inr (record { between = does.between; does = does.does; next = front_told does.next part })
+
+starting_told : (honest : Bool) (seed count target : ℕ) {old middle now : Image} {line : List ℕ}
+    → StartsOn honest seed count target old middle → SaysPart channels.Err line middle now → StartsOn honest seed count target old now
+starting_told honest seed count target (inl then) part = inl (then_told then part)
+starting_told honest seed count target (inr does) part =
+    inr (record { between = does.between; does = does.does; next = leading_told honest seed count target does.next part })
+
+making_told : {seed count : ℕ} {old middle now : Image} {line : List ℕ} → IsMaking seed count old middle
+    → SaysPart channels.Err line middle now → IsMaking seed count old now
+making_told {seed = seed} {count = count} making part = record {
+  can = making.can;
+  first = subst (ParamsComeFirst count) (sym part.2.files) making.first;
+  whole = subst (λ (f : ℕ → List ℕ). IsUnfinished (f init_file) ⊎ HasMade seed count f) (sym part.2.files) making.whole;
+  others = λ number first second. ap (λ (f : ℕ → List ℕ). f number) part.2.files ∙ making.others number first second;
+  out = part.2.others channels.Out Err≢Out ∙ making.out;
+}
+
+demo_told : (honest : Bool) (seed count target : ℕ) {old middle now : Image} {line : List ℕ}
+    → IsDemoUnderWay honest seed count target old middle → SaysPart channels.Err line middle now
+    → IsDemoUnderWay honest seed count target old now
+demo_told honest seed count target {old = old} demo part = record {
+  can = demo.can;
+  does = elim demo.does [
+    | inl making ↦ inl (making_told making part)
+    | inr makes ↦ inr (record {
+      made = makes.made;
+      makes = makes.makes;
+      next = starting_told honest seed count target makes.next part;
+    })
+  ];
+  out = λ is_honest.
+      subst (λ (said : List ℕ). SaidFrontOf (demo_text seed count target) (old.said channels.Out) said)
+      (sym (part.2.others channels.Out Err≢Out)) (demo.out is_honest);
+}
 
 partly_told : (honest : Bool) (files : ℕ → List ℕ) (job : Job) (old : Image) {middle now : Image} {line : List ℕ}
     → IsJobPartlyDone honest files job old middle → SaysPart channels.Err line middle now → IsJobPartlyDone honest files job old now
@@ -301,6 +352,7 @@ partly_told honest files job.Show old some part =
       },
     )
 partly_told honest files (job.Make seed count) old some part = make_told some part
+partly_told honest files (job.Demo seed count target pace) old some part = demo_told honest seed count target some part
 
 touches_told : {honest : Bool} {words : List (List ℕ)} {files : ℕ → List ℕ} {old middle now : Image} {line : List ℕ}
     → Touches honest words files old middle → SaysPart channels.Err line middle now → Touches honest words files old now
@@ -365,6 +417,8 @@ left_so honest job.Show old now why some refused =
     absurd (not_refused_job old.file job.Show why (some.0, some.1) refused)
 left_so honest (job.Make seed count) old now why some refused =
     absurd (not_refused_job old.file (job.Make seed count) why some.can refused)
+left_so honest (job.Demo seed count target pace) old now why some refused =
+    absurd (not_refused_job old.file (job.Demo seed count target pace) why some.can refused)
 
 -- Where a cause holds nothing has changed but on Err, and but for the snapshot that was due.
 pub cause_untouched : {honest : Bool} {words : List (List ℕ)} {old now : Image} {why : Stop} → Touches honest words old.file old now

@@ -30,6 +30,7 @@ use Rattle.nb_cli.specs.Once.{once_file, ticks_to as ticks_from, list_at, IsRead
 use Rattle.nb_cli.specs.Show.{show_text}
 use Rattle.nb_cli.specs.Make.{CanMake, IsThere, IsMade, IsMakeUnderWay, make_syncs}
 use Rattle.nb_cli.specs.Telling.{HasStarted, HasGone, HasResumed, IsDoneThenTold, LeadsThenTells}
+use Rattle.nb_cli.specs.Demo.{CanDemo, IsDemoRefused, IsDemoDone, IsDemoUnderWay}
 
 -- the statuses of the program: 0 where the command was done, 1 where the words are none, and those of the refusals
 abbrev pub statuses : List ℕ
@@ -46,7 +47,8 @@ pub record ComesWhere (expected status : ℕ) (Cause : Type 0) : Type 0 where
   pub always : Cause → (status ≡ expected) ⊎ Yields status
 
 -- A command can be done, by what the files hold: `start` where none was done and the files spell a start, `go` and `resume` by
--- the journal, `once` from a start, `show` of a journal, and `make` where its two files are empty.
+-- the journal, `once` from a start, `show` of a journal, `make` where its two files are empty, and `demo` where they are, no run
+-- is started and the target isn't too far away.
 abbrev pub IsJobReady : (ℕ → List ℕ) → Job → Type 0
 IsJobReady files (job.Start pages) = (start : Start) × IsStartReady files start
 IsJobReady files (job.Go target pace) = CanGo target files
@@ -54,6 +56,7 @@ IsJobReady files (job.Resume pace) = CanResume files
 IsJobReady files (job.Once target) = (start : Start) × IsReady files target start
 IsJobReady files job.Show = (log : Log) × IsJournal log (files journal_file)
 IsJobReady files (job.Make seed count) = CanMake files
+IsJobReady files (job.Demo seed count target pace) = CanDemo files target
 
 -- The cause for which a command refuses by what its files hold.
 abbrev pub IsJobRefused : (ℕ → List ℕ) → Job → Refusal → Type 0
@@ -63,6 +66,7 @@ IsJobRefused files (job.Resume pace) why = IsNotShown (files journal_file) why
 IsJobRefused files (job.Once target) why = IsRefused files target why
 IsJobRefused files job.Show why = IsNotShown (files journal_file) why
 IsJobRefused files (job.Make seed count) why = IsThere files why
+IsJobRefused files (job.Demo seed count target pace) why = IsDemoRefused files target why
 
 -- Why a command that can be done may still refuse, by what its files hold: the slot of the last tick is spoilt.
 abbrev pub IsJobSpoilt : (ℕ → List ℕ) → Job → Refusal → Type 0
@@ -121,7 +125,7 @@ pub record IsPartlyShown (log : Log) (old new : Image) : Type 0 where
 
 -- ---- all commands
 
--- A command is done. What `start`, `go` and `resume` may change is said of an honest host in full.
+-- A command is done. What `start`, `go`, `resume` and `demo` may change is said of an honest host in full.
 abbrev pub IsJobDone : Bool → Job → Image → Image → Type 0
 IsJobDone honest (job.Start pages) old new = IsDoneThenTold (StartLeads honest) HasStarted old new
 IsJobDone honest (job.Go target pace) old new = IsDoneThenTold (GoLeads honest target) (HasGone target) old new
@@ -129,6 +133,7 @@ IsJobDone honest (job.Resume pace) old new = IsDoneThenTold (ResumeLeads honest)
 IsJobDone honest (job.Once target) old new = (start : Start) × IsReady old.file target start × IsDone target start old new
 IsJobDone honest job.Show old new = (log : Log) × IsJournal log (old.file journal_file) × IsShown log old new
 IsJobDone honest (job.Make seed count) old new = IsMade seed count old new
+IsJobDone honest (job.Demo seed count target pace) old new = IsDemoDone honest seed count target old new
 
 -- What a command, where the files were these, may have changed at some moment, done or not.
 abbrev pub IsJobPartlyDone : Bool → (ℕ → List ℕ) → Job → Image → Image → Type 0
@@ -138,6 +143,7 @@ IsJobPartlyDone honest files (job.Resume pace) old new = LeadsThenTells (ResumeL
 IsJobPartlyDone honest files (job.Once target) old new = (start : Start) × IsReady files target start × IsPartlyDone target start old new
 IsJobPartlyDone honest files job.Show old new = (log : Log) × IsJournal log (files journal_file) × IsPartlyShown log old new
 IsJobPartlyDone honest files (job.Make seed count) old new = IsMakeUnderWay seed count old new
+IsJobPartlyDone honest files (job.Demo seed count target pace) old new = IsDemoUnderWay honest seed count target old new
 
 -- Nothing changed but what was said on Err.
 pub record IsUntouched (old new : Image) : Type 0 where
@@ -186,8 +192,8 @@ abbrev pub once_syncs : ℕ
 once_syncs = 5
 
 -- How often the program syncs where a command is done: once before it, so that what it reads is durable, and as often as
--- the command does. Of `start`, `go` and `resume` only the first is said: what each of the others is for stands in what a crash
--- may leave.
+-- the command does. Of `start`, `go`, `resume` and `demo` only the first is said: what each of the others is for stands in what a
+-- crash may leave.
 abbrev pub syncs_of : Job → Option ℕ
 syncs_of (job.Start _) = None
 syncs_of (job.Go _ _) = None
@@ -195,6 +201,7 @@ syncs_of (job.Resume _) = None
 syncs_of (job.Once _) = Some (once_syncs + 1)
 syncs_of job.Show = Some 1
 syncs_of (job.Make _ _) = Some (make_syncs + 1)
+syncs_of (job.Demo _ _ _ _) = None
 
 -- How often a run syncs that ends so, before and behind, by how often it does where it is done: the first sync alone where
 -- it can't be done, and, where that is said, at most all where the device failed or memory is wanting. `go` may have synced a

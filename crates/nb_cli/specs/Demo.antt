@@ -18,7 +18,8 @@ use Rattle.nb_engine.specs.Files.{params_file, init_file}
 use Rattle.nb_engine.specs.Histories.{History, run_of}
 use Rattle.nb_engine.specs.Refusal.{damaged_journal}
 use Rattle.nb_engine.specs.Represents.{RepresentsRun}
-use Rattle.nb_engine.specs.Sessions.{aimed_at, GoLeads}
+use Rattle.nb_engine.specs.declared.going.Done.{Done}
+use Rattle.nb_engine.specs.Sessions.{aimed_at, IsLed, GoLeads}
 use Rattle.nb_engine.specs.Start.{started, StartLeads}
 use Rattle.nb_engine.specs.Steps.{SaidFrontOf, lines_behind, played}
 use Rattle.nb_cli.specs.Once.{list_at}
@@ -94,6 +95,15 @@ pub record DoesThen (by : Image → Image → Type 0) (Did : Image → Image →
   pub does : IsDoneThenTold by Did old between
   pub next : Next between new
 
+-- The run was led to the target as `go` leads it, and no file changed behind that. So all snapshots that are due are finished, and
+-- where there was a tick the file of cells is the index of the last list.
+pub record IsDemoLed (seed count target : ℕ) (new : Image) : Type 0 where
+  pub begun : Image
+  pub ended : Image
+  pub done : Done
+  pub led : IsLed target (demo_history seed count target) begun done ended
+  pub files : new.file ≡ ended.file
+
 -- `demo` is done: it did what `make`, `start` and `go` do, with their lines but that of `make`, and said the last line. So the two
 -- files are those that are made, and the folder represents the run at the target.
 pub record IsDemoDone (honest : Bool) (seed count target : ℕ) (old new : Image) : Type 0 where
@@ -104,6 +114,7 @@ pub record IsDemoDone (honest : Bool) (seed count target : ℕ) (old new : Image
       (Says channels.Out (summary_line seed count target)))) old new
   pub made : HasMade seed count new.file
   pub represents : RepresentsRun (played target (demo_history seed count target)) new
+  pub led : IsDemoLed seed count target new
   pub out : new.said channels.Out ≡ old.said channels.Out ++ demo_text seed count target
   pub err : new.said channels.Err ≡ old.said channels.Err
 

@@ -115,15 +115,21 @@ pub record IsMadeFrom (seed count : ℕ) (old new : Image) : Type 0 where
   pub made : HasMade seed count new.file
   pub others : AgreesOutside (params_file ∷ init_file ∷ []) old new
 
+-- The snapshot is begun only behind the parameters, all of them.
+abbrev pub ParamsComeFirst : ℕ → (ℕ → List ℕ) → Type 0
+ParamsComeFirst count files = (files init_file ≡ []) ⊎ (files params_file ≡ text_without_edge (made_params count))
+
 -- The two files may be in part, and nothing else changed. The snapshot is unfinished, or both are whole.
 pub record IsPartlyMade (seed count : ℕ) (old new : Image) : Type 0 where
   pub can : CanMake old.file
+  pub first : ParamsComeFirst count new.file
   pub whole : IsUnfinished (new.file init_file) ⊎ HasMade seed count new.file
   pub others : AgreesOutside (params_file ∷ init_file ∷ []) old new
 
 -- The same, whatever was said on Err.
 pub record IsMaking (seed count : ℕ) (old new : Image) : Type 0 where
   pub can : CanMake old.file
+  pub first : ParamsComeFirst count new.file
   pub whole : IsUnfinished (new.file init_file) ⊎ HasMade seed count new.file
   pub others : (number : ℕ) → number ≢ params_file → number ≢ init_file → new.file number ≡ old.file number
   pub out : new.said channels.Out ≡ old.said channels.Out
@@ -150,6 +156,7 @@ pub record IsMade (seed count : ℕ) (old new : Image) : Type 0 where
 -- nothing is said before both are whole.
 pub record IsMakeUnderWay (seed count : ℕ) (old new : Image) : Type 0 where
   pub can : CanMake old.file
+  pub first : ParamsComeFirst count new.file
   pub whole : IsUnfinished (new.file init_file) ⊎ HasMade seed count new.file
   pub others : (number : ℕ) → number ≢ params_file → number ≢ init_file → new.file number ≡ old.file number
   pub out : SaidFrontOf (made_line count) (old.said channels.Out) (new.said channels.Out)

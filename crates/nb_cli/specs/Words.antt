@@ -131,6 +131,8 @@ IsNamed name numbers job.Show = (name ≡ codes "show") × AreOnly [] numbers
 IsNamed name numbers (job.Once target) = (name ≡ codes "once") × AreOnly (target ∷ []) numbers
 IsNamed name numbers (job.Make seed count) =
     (name ≡ codes "make") × AreOnly (seed ∷ count ∷ []) numbers × (count ≤ most_bodies)
+IsNamed name numbers (job.Demo seed count target pace) =
+    (name ≡ codes "demo") × (numbers.arguments ≡ seed ∷ count ∷ target ∷ []) × (count ≤ most_bodies) × IsPaceOf numbers pace
 
 -- The words are this command: its name, and then words that spell its numbers.
 pub record IsJob (words : List (List ℕ)) (job : Job) : Type 0 where
@@ -151,4 +153,5 @@ IsPaced (job.Start pages) = (4 ≤ pages) × (pages ≤ 2 ^ 18)
 IsPaced (job.Go target pace) = IsPace pace
 IsPaced (job.Resume pace) = IsPace pace
 IsPaced (job.Make seed count) = count ≤ most_bodies
+IsPaced (job.Demo seed count target pace) = (count ≤ most_bodies) × IsPace pace
 IsPaced _ = ⊤

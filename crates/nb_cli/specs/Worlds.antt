@@ -1,6 +1,6 @@
 -- What sessions do to a folder, one after the other, whatever becomes of each: what it holds, with all that was told on standard
 -- output since no run was started, is an image.
-use Rattle.std.specs.Prelude.{◌≡◌, ◌≢◌, ◌⊎◌, ⊤, ℕ, ◌<◌, ◌≤◌, List, [], ◌∷◌, ◌++◌, length}
+use Rattle.std.specs.Prelude.{◌≡◌, ◌≢◌, ◌⊎◌, ⊤, ℕ, ◌<◌, ◌≤◌, List, [], ◌∷◌, ◌++◌, length, Contains}
 use Rattle.nb_host.specs.declared.host.Channel.TheVariants as channels
 use Rattle.nb_host.specs.Crashes.{Stays}
 use Rattle.nb_host.specs.Image.{Image}
@@ -16,7 +16,8 @@ use Rattle.nb_engine.specs.Start.{Start, IsStartReady, started}
 use Rattle.nb_cli.specs.declared.words.Job.{Job}
 use Rattle.nb_cli.specs.declared.words.Job.TheVariants as job
 use Rattle.nb_cli.specs.Answer.{IsUntouched}
-use Rattle.nb_cli.specs.Make.{CanMake}
+use Rattle.nb_cli.specs.Make.{made_start, HasMade, CanMake}
+use Rattle.nb_cli.specs.Demo.{CanDemo}
 use Rattle.nb_cli.specs.Once.{once_file}
 
 -- ---- a run that goes on
@@ -37,7 +38,7 @@ KeepsSnapshots h old new = (j : ℕ) → j ≤ ticks_of h → IsFinishedSnapshot
 
 -- ---- one session
 
--- Only `go` and `resume` take ticks of a run that is there.
+-- Only `go` and `resume` take ticks of a run that is there: `demo` takes those of its own.
 abbrev pub TakesTicks : Job → Type 0
 TakesTicks (job.Go target pace) = ⊤
 TakesTicks (job.Resume pace) = ⊤
@@ -66,19 +67,37 @@ pub record StartsRun (old new : Image) : Type 0 where
   pub is : IsHistory (started start)
   pub represents : RepresentsRun (started start) new
 
--- What run a command may start where there is none: `start` that of the two files.
+-- The run of the bodies that `demo` makes was started, where neither of the two files held anything. It has no leg, or the one
+-- that was asked for, and any number of its ticks.
+pub record StartsDemo (seed count target : ℕ) (old new : Image) : Type 0 where
+  pub can : CanDemo old.file target
+  pub made : HasMade seed count new.file
+  pub legs : List ℕ
+  pub asked : (legs ≡ []) ⊎ (legs ≡ target ∷ [])
+  pub run : History
+  pub is : IsHistory run
+  pub represents : RepresentsRun run new
+  pub is_later : IsLater legs (started (made_start seed count)) run
+
+-- What run a command may start where there is none: `start` that of the two files, `demo` that of the bodies that it makes.
 abbrev pub MayStart : Job → Image → Image → Type 0
 MayStart (job.Start pages) old new = StartsRun old new
+MayStart (job.Demo seed count target pace) old new = StartsDemo seed count target old new
 MayStart _ old new = ⊥
+
+-- the files that `start` writes: the journal, the slot of tick 0, and that in which it lays down the bodies
+abbrev pub start_files : List ℕ
+start_files = journal_file ∷ 3 ∷ 5 ∷ []
 
 -- A command leaves this file alone, whatever becomes of it.
 abbrev pub IsLeftAlone : Job → ℕ → Type 0
-IsLeftAlone (job.Start pages) number = (number ≤ 1) ⊎ (number ≡ 4) ⊎ (6 ≤ number)
+IsLeftAlone (job.Start pages) number = Contains start_files number → ⊥
 IsLeftAlone (job.Go target pace) number = IsApart number
 IsLeftAlone (job.Resume pace) number = IsApart number
 IsLeftAlone job.Show number = ⊤
 IsLeftAlone (job.Once target) number = number ≢ once_file
 IsLeftAlone (job.Make seed count) number = 2 ≤ number
+IsLeftAlone (job.Demo seed count target pace) number = (8 ≤ number) × (number < 16)
 
 -- The folder extends what it was by a session of this command.
 pub record Extends (job : Job) (old new : Image) : Type 0 where
@@ -124,9 +143,10 @@ abbrev pub left_by : Image → List Session → Image
 left_by first [] = first
 left_by first (session ∷ sessions) = left_by session.left sessions
 
--- the target that a command asks for, where it is one that leads a run
+-- the target that a command asks for, where it is one that leads a run to a time
 abbrev pub asked_by : Job → List ℕ
 asked_by (job.Go target pace) = target ∷ []
+asked_by (job.Demo seed count target pace) = target ∷ []
 asked_by _ = []
 
 -- those that were asked for, in order
@@ -154,9 +174,11 @@ pub record Lasts (h : History) (old new : Image) : Type 0 where
   pub is_later : IsLater legs h later
   pub kept : KeepsSnapshots h old new
 
--- What a session starts a run of, where these are the files: `start` of the two files, where it can be done.
+-- What a session starts a run of, where these are the files: `start` of the two files, and `demo` of what it makes, where it can
+-- be done.
 abbrev pub IsStartOf : Job → (ℕ → List ℕ) → Start → Type 0
 IsStartOf (job.Start pages) files start = IsStartReady files start
+IsStartOf (job.Demo seed count target pace) files start = CanDemo files target × (start ≡ made_start seed count)
 IsStartOf _ files start = ⊥
 
 -- One of the sessions started this run, where none was there.

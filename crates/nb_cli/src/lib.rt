@@ -3,7 +3,7 @@
 //! `program` has the one call that does it all, from the words to the exit status (`status`). `words` reads the
 //! words, which `clap` splits. `once_command` does `once` over the snapshot that `init_file` reads,
 //! `make_command` and `demo_command` do `make` and `demo` over the bodies of `generator`, `show_command` has the
-//! text of `show`, and `stop` says why not. `worlds` has the law of any list of sessions.
+//! text of `show`, and `stop` says why not. `worlds` has the laws of sessions.
 #![tactic(auto)]
 
 mod demo_command;
@@ -24,4 +24,4 @@ pub use once_command::{Done, once};
 pub use program::nbody;
 pub use stop::Stop;
 pub use words::{Job, WordsError, read_words};
-pub use worlds::law_worlds;
+pub use worlds::{law_demo, law_worlds};

@@ -15,6 +15,7 @@ ghost use Rattle.nb_cli.specs.Worlds.{ExtendsOrNot};
 ghost use Rattle.nb_cli.specs.Stop.{IsGiven, IsSayable, IsWithoutCause};
 ghost use Rattle.nb_cli.specs.Answer.{statuses, Yields, ComesWhere, ComesByCause, HasCause, HasSpoilt, IsSpoiltBy, IsJobReady, IsJobRefused, IsJobSpoilt, IsJobDone, LeavesAll, Touches, CountsRun, CountsWords, syncs_of, HasBegun, HasBegunOrNot, JobBegins, HasDone, BringsUp, BringsUpWords, WasTold, WasRefused};
 
+use crate::demo_command::demo;
 use crate::make_command::make;
 use crate::once_command::once;
 use crate::show_command::folder_text;
@@ -115,6 +116,7 @@ fn run_job<H: Host>(alloc: Global, host: &mut H, job: Job) -> Result<(), Refusal
         Job::Once(target) => run_once(alloc, host, target),
         Job::Show => run_show(alloc, host),
         Job::Make(seed, count) => run_make(host, seed, count),
+        Job::Demo(seed, count, target, pace) => run_demo(alloc, host, seed, count, target, pace),
     }
 }
 
@@ -243,6 +245,33 @@ fn run_make<H: Host>(host: &mut H, seed: u64, count: u64) -> Result<(), Refusal>
     Ok(())
 }
 
+/// Does the command `demo`, which says its own lines on Out.
+fn run_demo<H: Host>(
+    alloc: Global,
+    host: &mut H,
+    seed: u64,
+    count: u64,
+    target: u64,
+    pace: Pace,
+) -> Result<(), Refusal>
+    requires { IsPaced (job.Demo seed count target pace) }
+    ensures cause { IfErr result (λ why. IsTrue H.meaning.tells → NeedsNoCause why
+        ⊎ IsJobRefused (H.meaning.contents host.old).file (job.Demo seed count target pace) why
+        ⊎ IsJobSpoilt (H.meaning.contents host.old).file (job.Demo seed count target pace) why) }
+    ensures given { IfErr result IsGiven }
+    ensures done { OnOk result (IsTrue H.meaning.tells → IsJobDone H.meaning.crashes.is_honest (job.Demo seed count target pace)
+        (H.meaning.contents host.old) (H.meaning.contents host.new)) }
+    ensures durable { OnOk result (IsDurable H.meaning host.new) }
+    ensures begun { OnOk result (JobBegins H.meaning (job.Demo seed count target pace) host.old host.new) }
+    ensures run { Leads H.meaning Stays host.old host.new
+        ⊎ JobBegins H.meaning (job.Demo seed count target pace) host.old host.new }
+    ensures counts { CountsRun H.meaning (syncs_of (job.Demo seed count target pace)) host.old host.new result }
+{
+    host.sync()?;
+    demo(alloc, host, seed, count, target, pace)?;
+    Ok(())
+}
+
 /// Says on Err why the program isn't done, and answers the status: that of the reason, or, where its line
 /// couldn't be said, that of what kept it from being said. A device fault, damage and want of memory stay what they
 /// are.
@@ -262,6 +291,8 @@ fn say_why<H: Host>(host: &mut H, why: Stop) -> u8
 
 #[cfg(test)]
 mod generated;
+#[cfg(test)]
+mod lists;
 #[cfg(test)]
 mod sessions;
 #[cfg(test)]

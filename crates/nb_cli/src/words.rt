@@ -55,6 +55,8 @@ pub enum Job {
     Once(u64),
     /// Parameters and bodies are made of a seed, first: so many bodies.
     Make(u64, u64),
+    /// They are made, and a run of them is started and led to this time, in ticks.
+    Demo(u64, u64, u64, Pace),
 }
 
 /// Why words aren't read as a command.
@@ -163,6 +165,9 @@ fn job_named(name: &str, given: &Given) -> Option<Job>
         [target] if name == "once" && given.is_plain() => Some(Job::Once(*target)),
         [seed, count] if name == "make" && *count <= MOST_BODIES && given.is_plain() => {
             Some(Job::Make(*seed, *count))
+        }
+        [seed, count, target] if name == "demo" && *count <= MOST_BODIES => {
+            Some(Job::Demo(*seed, *count, *target, pace_of(given)?))
         }
         _ => None,
     }

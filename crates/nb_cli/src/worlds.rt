@@ -1,13 +1,20 @@
-//! The law of any list of sessions. Its function does nothing: its contract is the law.
+//! The laws of sessions: of any list of them, and of the one that is three in one. Their functions do nothing: their
+//! contracts are the laws.
 
-ghost use Rattle.std.specs.Prelude.{◌≡◌, ◌≤◌, ℕ, List, length, ◌++◌};
+ghost use Rattle.std.specs.Prelude.{◌≡◌, ◌≤◌, ℕ, true, List, length, ◌++◌};
+ghost use Rattle.nb_model.specs.Limits.{most_bodies};
 ghost use Rattle.nb_host.specs.declared.host.Channel.TheVariants as channels;
 ghost use Rattle.nb_host.specs.Image.{Image};
 ghost use Rattle.nb_engine.specs.Acknowledged.{Acknowledges};
 ghost use Rattle.nb_format.specs.Snapshot.{IsFinishedSnapshot};
+ghost use Rattle.nb_engine.specs.declared.going.Pace.{Pace};
 ghost use Rattle.nb_engine.specs.Histories.{legs_in, length_of, History, run_of, ticks_of, IsHistory};
 ghost use Rattle.nb_engine.specs.Represents.{snap_of, IsSnapshotOf, RepresentsRun, RepresentsHistory, IsSoundImage};
-ghost use Rattle.nb_cli.specs.Worlds.{Session, AreSessions, left_by, asked_for, IsAmong, IsNew, WasStarted, Lasts};
+ghost use Rattle.nb_cli.specs.declared.words.Job.TheVariants as job;
+ghost use Rattle.nb_cli.specs.Demo.{DemoLeads};
+ghost use Rattle.nb_cli.specs.Worlds.{Extends, Session, AreSessions, left_by, asked_for, IsAmong, IsNew, WasStarted, Lasts};
+
+use nb_engine::law_acknowledged;
 
 /// What no crash can do.
 ///
@@ -16,9 +23,9 @@ ghost use Rattle.nb_cli.specs.Worlds.{Session, AreSessions, left_by, asked_for, 
 /// crash. Then, whatever happened:
 ///
 /// - the folder holds no run and no tick was told, or it holds one run;
-/// - that run was started by a `start` among the commands, of the two files as they were then; from then on its
-///   parameters, its first bodies and the time of its begin stay;
-/// - a leg that was begun stays, and each is one that `go` was asked for, in that order;
+/// - that run was started by one of the commands, by `start` of the two files as they were then, or by `demo` of the
+///   bodies that it makes; from then on its parameters, its first bodies and the time of its begin stay;
+/// - a leg that was begun stays, and each is one that `go` or `demo` was asked for, in that order;
 /// - a tick that is done stays done, and each tick that was told on standard output is done;
 /// - a finished snapshot of a tick that is done stays, byte for byte, and is the definition's list.
 ///
@@ -56,3 +63,13 @@ pub fn law_worlds()
     ensures sound { (first : Image) (sessions : List Session) → IsNew first → AreSessions first sessions
         → IsSoundImage (left_by first sessions) }
 {}
+
+/// What `demo` may do to a folder, at any moment, is what a session of it may, and the folder stays sound.
+pub fn law_demo()
+    ensures sound { (seed count target : ℕ) (old new : Image) → count ≤ most_bodies → IsSoundImage old
+        → DemoLeads true seed count target old new → IsSoundImage new }
+    ensures extends { (seed count target : ℕ) (pace : Pace) (old new : Image) → IsSoundImage old
+        → DemoLeads true seed count target old new → Extends (job.Demo seed count target pace) old new }
+{
+    law_acknowledged();
+}

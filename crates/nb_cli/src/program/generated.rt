@@ -1,15 +1,23 @@
-//! `make` and `demo` over a host in memory. What they make was computed by a generator of another program, which
-//! shares nothing with this one.
+//! `make` and `demo` over a host in memory. What they make, and the sum at the end of a run, were computed by another
+//! program, which shares nothing with this one.
 
 use super::*;
-use crate::demo;
 use nb_host::{MemoryHost, Outcome};
+use std::alloc::AllocError;
 use std::process::Abort;
 use std::test::Fail;
 
 const PARAMS: u64 = 0;
 
 const INIT: u64 = 1;
+
+/// The snapshot after three ticks.
+const AFTER_3: u64 = 19;
+
+/// What a run of 2000 bodies of seed 7 says up to time 3.
+const CROWD: &[u8] = b"started bodies 2000 time 0\n\
+    tick 1 time 1 out 0\ntick 2 time 2 out 0\ntick 3 time 3 out 0\ndone time 3 ticks 3 out 0\n\
+    demo bodies 2000 out 0 sum 3298533724739943\n";
 
 /// The snapshot of no bodies at time 0.
 static EMPTY: [u8; 32] = [
@@ -45,6 +53,20 @@ static TWO_OF_1: [[i64; 8]; 2] = [
     ],
 ];
 
+/// The header of two bodies at time 0.
+static HEADER_OF_TWO: [u8; 32] = [
+    0x46, 0x4e, 0x42, 0x53, 0x4e, 0x41, 0x50, 0x31, 2, 0, 0, 0, 0, 0, 0, 0, //
+    0, 0, 0, 0, 0, 0, 0, 0, 0, 0, 0, 0, 0, 0, 0, 0,
+];
+
+/// Spells numbers at the end of the bytes.
+fn spell(bytes: &mut Vec<u8>, fields: &[i64]) -> Result<(), AllocError> {
+    for field in fields {
+        bytes.extend_from_slice(&field.to_le_bytes())?;
+    }
+    Ok(())
+}
+
 /// Runs the words, and looks at the status and at what is said in all.
 fn check(
     rt: &impl Abort,
@@ -75,20 +97,11 @@ fn two_made(rt: HostRuntime) -> Result<(), Fail> {
         b"",
     );
     assert_eq!(rt; host.bytes(PARAMS), TWO);
-    let init = host.bytes(INIT);
-    assert_eq!(rt; init.len(), 160);
-    for index in 0..2 {
-        let record = &init[32 + 64 * index..96 + 64 * index];
-        let fields = TWO_OF_1[index];
-        assert_eq!(rt; &record[..8], fields[0].to_le_bytes().as_slice());
-        assert_eq!(rt; &record[8..16], fields[1].to_le_bytes().as_slice());
-        for field in 2..8 {
-            assert_eq!(rt;
-                &record[8 * field..8 * field + 8],
-                fields[field].to_le_bytes().as_slice()
-            );
-        }
+    let mut init = Vec::from_slice(alloc, &HEADER_OF_TWO)?;
+    for fields in &TWO_OF_1 {
+        spell(&mut init, fields)?;
     }
+    assert_eq!(rt; host.bytes(INIT), init.as_slice());
     check(
         &rt,
         &mut host,
@@ -132,37 +145,45 @@ fn none_made(rt: HostRuntime) -> Result<(), Fail> {
     Ok(())
 }
 
-/// What `demo` answers for two bodies of seed 1 and this target, with what it says.
-fn check_target(
-    rt: &impl Abort,
-    alloc: Global,
-    target: u64,
-    answer: Result<u128, Refusal>,
-    out: &[u8],
-) {
+#[test]
+fn two_led(rt: HostRuntime) -> Result<(), Fail> {
+    let alloc = rt.alloc();
     let mut host = MemoryHost::new(alloc);
-    let pace = Pace {
-        pages: 16,
-        walks: 4,
-    };
-    assert_eq!(rt; demo(alloc, &mut host, 1, 2, target, pace), answer);
-    assert_eq!(rt; host.said(Channel::Out), out);
+    let far = ["demo", "1", "2", "1099511627777"];
+    let too_far = b"nbody: 1099511627777 ticks are more than 2^40\n";
+    check(&rt, &mut host, alloc, &far, 8, b"", too_far);
+    // The sum of the six coordinates of the two bodies that are made: none of them moves.
+    let mut host = MemoryHost::new(alloc);
+    let words = ["demo", "1", "2", "0"];
+    let out = b"started bodies 2 time 0\ndone time 0 ticks 0 out 0\n\
+        demo bodies 2 out 0 sum 3298578154529\n";
+    check(&rt, &mut host, alloc, &words, 0, out, b"");
+    assert_eq!(rt; host.bytes(PARAMS), TWO);
+    let started = b"nbody: already started\n";
+    check(&rt, &mut host, alloc, &words, 6, out, started);
+    // Where a file is there, but no run.
+    let mut host = MemoryHost::new(alloc);
+    host.with_file(INIT, &EMPTY)?;
+    let there = b"nbody: params or init.nbs is there\n";
+    check(&rt, &mut host, alloc, &words, 9, b"", there);
+    Ok(())
+}
+
+/// A run of 2000 bodies with these options, and its last snapshot.
+fn crowd_led(rt: &impl Abort, alloc: Global, pages: &str, walks: &str) -> Result<MemoryHost, Fail> {
+    let mut host = MemoryHost::new(alloc);
+    let words = ["demo", "7", "2000", "3", "--pages", pages, "--walks", walks];
+    check(rt, &mut host, alloc, &words, 0, CROWD, b"");
+    Ok(host)
 }
 
 #[test]
-fn targets_of_demos(rt: HostRuntime) -> Result<(), Fail> {
+fn a_crowd_led(rt: HostRuntime) -> Result<(), Fail> {
     let alloc = rt.alloc();
-    // The sum of the six coordinates of the two bodies that are made.
-    let out =
-        b"started bodies 2 time 0\ndone time 0 ticks 0 out 0\ndemo bodies 2 out 0 sum 3298578154529\n";
-    check_target(&rt, alloc, 0, Ok(3_298_578_154_529), out);
-    let far = 1_099_511_627_777;
-    check_target(
-        &rt,
-        alloc,
-        far,
-        Err(Refusal::TickLimit(u128::from(far))),
-        b"",
-    );
+    let small = crowd_led(&rt, alloc, "16", "64")?;
+    let large = crowd_led(&rt, alloc, "256", "1")?;
+    let last = small.bytes(AFTER_3);
+    assert_eq!(rt; last.len(), 128_032);
+    assert_eq!(rt; last, large.bytes(AFTER_3));
     Ok(())
 }

@@ -64,13 +64,25 @@ fn commands(rt: HostRuntime) -> Result<(), Fail> {
         &["make", "1", "16777216"],
         Some(Job::Make(1, 16_777_216)),
     );
+    check(
+        &rt,
+        alloc,
+        &["demo", "7", "--pages=16", "2000", "3", "--walks", "64"],
+        Some(Job::Demo(7, 2000, 3, paced(16, 64))),
+    );
+    check(
+        &rt,
+        alloc,
+        &["demo", "--", "0", "0", "0"],
+        Some(Job::Demo(0, 0, 0, USUAL)),
+    );
     Ok(())
 }
 
 #[test]
 fn no_commands(rt: HostRuntime) -> Result<(), Fail> {
     let alloc = rt.alloc();
-    let refused: [&[&str]; 34] = [
+    let refused: [&[&str]; 36] = [
         &[],
         &["go"],
         &["go", "-5"],
@@ -101,7 +113,9 @@ fn no_commands(rt: HostRuntime) -> Result<(), Fail> {
         &["show", "--pages", "4"],
         &["once", "1", "--pages", "4"],
         &["make", "1"],
-        &["demo", "7", "2000", "3"],
+        &["demo", "7", "2000"],
+        &["demo", "7", "16777217", "3"],
+        &["demo", "7", "2000", "3", "4"],
         &["-h"],
         &["go", "--help"],
         &["help"],

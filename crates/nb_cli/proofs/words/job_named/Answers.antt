@@ -1,6 +1,6 @@
 use Rattle.std.proofs.Common.{rules, arith, []}
 use Rattle.nb_cli.specs.Splitting.{lists_of}
-use Rattle.nb_cli.proofs.Arguments.{none_there, one_there, two_there, only_these}
+use Rattle.nb_cli.proofs.Arguments.{none_there, one_there, two_there, three_there, only_these}
 use Rattle.nb_cli.proofs.words.job_named.Goals as goal
 
 pub returns-in_ok-start_pages-in-empty-clause-some : goal.returns-in_ok-start_pages-in-empty-clause-some
@@ -35,3 +35,8 @@ returns-in-len2-clause-some c =
       only_these (lists_of c.args.given.now) _ (cc) (c.is_plain-then-count-le-MOST_BODIES.ensures.0 c.if-is_plain-3.true),
       omega arith,
     )
+
+pub returns-in_ok-pace_of-in-len3-clause-some : goal.returns-in_ok-pace_of-in-len3-clause-some
+returns-in_ok-pace_of-in-len3-clause-some c =
+    let three = three_there c.as_slice.result.now c.in-len3.len_at_least c.in-len3.len_below in
+    (search rules, cc, omega arith, c.in_ok-pace_of-in-len3.ensures.some)

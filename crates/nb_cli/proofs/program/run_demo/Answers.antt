@@ -1,0 +1,78 @@
+use Rattle.std.proofs.Common.{rules, ◌≡◌, inr, Ok, Err, IsTrue, IsOk, subst}
+use Rattle.nb_host.specs.Image.{Image}
+use Rattle.nb_host.proofs.Callers.{stays_contents, leads_more}
+use Rattle.nb_engine.specs.Refusal.{of_host}
+use Rattle.nb_cli.specs.declared.words.Job.TheVariants as job
+use Rattle.nb_cli.specs.Answer.{IsJobDone}
+use Rattle.nb_cli.proofs.Causes.{IsCause, cause_still, given_by_demo, never_spoilt}
+use Rattle.nb_cli.proofs.Sessions.{counts_first, counts_session, counts_whole, syncs_start}
+use Rattle.nb_cli.proofs.program.run_demo.Goals as goal
+
+-- ---- why it is refused
+
+pub returns-in_err-demo-clause-cause : goal.returns-in_err-demo-clause-cause
+returns-in_err-demo-clause-cause g c =
+    let why = c.in_err-demo.field-0.0 in
+    let one = job.Demo c.args.seed c.args.count c.args.target c.args.pace in
+    let handed_on : c.from_residual-in_err-demo.result ≡ Err why = search rules in
+    let cause : IsTrue g.H.Host.meaning.tells → IsCause (g.H.Host.meaning.contents c.args.host.now).file one why = λ told.
+    cause_still one (stays_contents c.sync.ensures.ran.leads)
+    (never_spoilt (g.H.Host.meaning.contents c.sync.new.self).file one (c.in_err-demo.ensures.cause told)) in
+    rw handed_on cause
+
+pub returns-in_err-demo-clause-given : goal.returns-in_err-demo-clause-given
+returns-in_err-demo-clause-given g c =
+    let why = c.in_err-demo.field-0.0 in
+    let handed_on : c.from_residual-in_err-demo.result ≡ Err why = search rules in
+    rw handed_on (given_by_demo why c.in_err-demo.ensures.refusals)
+
+-- ---- what it leaves at each moment
+
+pub returns-in_err-demo-clause-run : goal.returns-in_err-demo-clause-run
+returns-in_err-demo-clause-run g c = inr (record {
+  synced = c.sync.new.self;
+  before = c.in_ok-sync.ensures.ran.leads;
+  durable = c.in_ok-sync.ensures.durable;
+  since = leads_more c.in_err-demo.ensures.ran.leads (λ start image step. record { touches = step.leads; err = step.err });
+})
+
+pub returns-clause-begun : goal.returns-clause-begun
+returns-clause-begun g c = record {
+  synced = c.sync.new.self;
+  before = c.in_ok-sync.ensures.ran.leads;
+  durable = c.in_ok-sync.ensures.durable;
+  since = leads_more c.in_ok-demo.ensures.ran.leads (λ start image step. record { touches = step.leads; err = step.err });
+}
+
+pub returns-clause-run : goal.returns-clause-run
+returns-clause-run g c = inr (returns-clause-begun g c)
+
+pub returns-clause-done : goal.returns-clause-done
+returns-clause-done g c tells =
+    let m = g.H.Host.meaning in
+    let one = job.Demo c.args.seed c.args.count c.args.target c.args.pace in
+    subst (λ (i : Image). IsJobDone m.crashes.is_honest one i (m.contents c.demo.new.host))
+    (stays_contents c.in_ok-sync.ensures.ran.leads) (c.in_ok-demo.ensures.done tells)
+
+-- ---- what it owes to the counts
+
+pub returns-in_err-sync-clause-counts : goal.returns-in_err-sync-clause-counts
+returns-in_err-sync-clause-counts g c =
+    let handed_on : c.from_residual.result ≡ Err (of_host c.in_err-sync.field-0.0) = search rules in
+    rw handed_on (counts_first c.sync.ensures.ran c.in_err-sync.was)
+
+pub returns-in_err-demo-clause-counts : goal.returns-in_err-demo-clause-counts
+returns-in_err-demo-clause-counts g c =
+    let why = c.in_err-demo.field-0.0 in
+    let handed_on : c.from_residual-in_err-demo.result ≡ Err why = search rules in
+    let fine : IsOk c.sync.result = search rules in
+    let m = g.H.Host.meaning in
+    rw handed_on
+    (counts_session fine c.sync.ensures.ran c.demo.ensures.ran c.in_err-demo.was
+    (λ told. syncs_start why (m.tally c.sync.new.self) (m.tally c.demo.new.host) (c.in_err-demo.ensures.unsynced told)))
+
+pub returns-clause-counts : goal.returns-clause-counts
+returns-clause-counts g c =
+    let fine : IsOk c.sync.result = search rules in
+    let done : IsOk c.demo.result = search rules in
+    counts_whole fine c.sync.ensures.ran c.demo.ensures.ran done
