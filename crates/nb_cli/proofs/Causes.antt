@@ -19,7 +19,7 @@ use Rattle.nb_cli.specs.declared.words.Job.TheVariants as job
 use Rattle.nb_cli.specs.Words.{IsJob}
 use Rattle.nb_engine.specs.Start.{Start, HasStart, IsNoStart, IsStartReady, IsStartRefused, IsOfStart}
 use Rattle.nb_cli.specs.Stop.{IsGiven}
-use Rattle.nb_cli.specs.Once.{IsReady, IsRefused}
+use Rattle.nb_cli.specs.Once.{IsReady, IsOfOnce, IsRefused}
 use Rattle.nb_cli.specs.Make.{CanMake, IsThere, IsOfMake}
 use Rattle.nb_cli.specs.Demo.{CanDemo, IsDemoRefused, IsOfDemo}
 use Rattle.nb_cli.proofs.Commands.{one_job}
@@ -261,6 +261,16 @@ given_by_resume (refusal.TooMany count) of_resume = absurd of_resume
 given_by_resume refusal.Device of_resume = tt
 given_by_resume (refusal.Damaged place) of_resume = tt
 given_by_resume refusal.NoMemory of_resume = tt
+
+pub given_by_once : (why : Refusal) → IsOfOnce why → IsGiven why
+given_by_once (refusal.Params error) of_once = of_once
+given_by_once (refusal.Snapshot error) of_once = of_once
+given_by_once (refusal.TooMany count) of_once = tt
+given_by_once (refusal.TooHeavy grav mass) of_once = tt
+given_by_once (refusal.TickLimit ticks) of_once = tt
+given_by_once refusal.Device of_once = tt
+given_by_once refusal.NoMemory of_once = tt
+given_by_once _ of_once = absurd of_once
 
 pub given_by_make : (why : Refusal) → IsOfMake why → IsGiven why
 given_by_make refusal.InitThere of_make = tt

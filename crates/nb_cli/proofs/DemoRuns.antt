@@ -233,10 +233,6 @@ made_of_demo refusal.Device of_make = tt
 made_of_demo refusal.NoMemory of_make = tt
 made_of_demo _ of_make = absurd of_make
 
-pub host_needless : (error : HostError) → NeedsNoCause (of_host error)
-host_needless Fault = inl refl
-host_needless NoMemory = inr refl
-
 -- what is owed where a refusal has a cause, where only one without a cause can come
 pub never_behind : {H : Type 0} (m : HostModel H) {why : Refusal} {Owed : Type 0} → (IsTrue m.tells → NeedsNoCause why)
     → IsTrue m.tells → (NeedsNoCause why → ⊥) → Owed

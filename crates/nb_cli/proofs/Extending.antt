@@ -29,19 +29,21 @@ use Rattle.nb_engine.specs.Start.{Start, HasStart, started, StartLeads}
 use Rattle.nb_engine.specs.Steps.{lines_behind, line_of, SaidFrontOf, SaidLinesOf, played, GoesOn}
 use Rattle.nb_engine.proofs.Callers.{run-ticked, ticks-ticked, run-legged, ticks-legged, history-played, represents_kept, started_history, leads_from_durable}
 use Rattle.nb_cli.specs.declared.stop.Stop.{Stop}
+use Rattle.nb_cli.specs.declared.stop.Stop.TheVariants as stop
 use Rattle.nb_cli.specs.declared.words.Job.{Job}
 use Rattle.nb_cli.specs.declared.words.Job.TheVariants as job
 use Rattle.nb_cli.specs.Telling.{LeadsThenTells}
 use Rattle.nb_cli.specs.Once.{once_file}
 use Rattle.nb_cli.specs.Make.{made_start, IsMadeFrom, IsMakeUnderWay}
 use Rattle.nb_cli.specs.Demo.{CanDemo, demo_text, IsDemoUnderWay}
-use Rattle.nb_cli.specs.Words.{IsJob}
+use Rattle.nb_cli.specs.Words.{IsJob, IsNoCommand}
 use Rattle.nb_cli.specs.Answer.{IsUntouched, IsPartlyDone, IsJobPartlyDone, Touches, RunTouches, HasBegun, HasBegunOrNot, WasTold}
 use Rattle.nb_cli.specs.Worlds.{IsLater, KeepsSnapshots, TakesTicks, MayAdd, StartsDemo, MayStart, GoesFurther, start_files, IsLeftAlone, Extends, ExtendsOrNot}
 use Rattle.nb_cli.proofs.Commands.{one_job}
 use Rattle.nb_cli.proofs.DemoStages.{IsStartedOn, two_apart, kept_made, same_made, fresh_made, started_on}
 use Rattle.nb_cli.proofs.Lasting.{no_run, later_same, later_then}
 use Rattle.nb_cli.proofs.MadeStarts.{made_ready, made_only}
+use Rattle.nb_cli.proofs.Statuses.{told_kept, free_answer}
 
 -- ---- what is said
 
@@ -498,8 +500,8 @@ each_extends m words job old synced new is sound before durable since = record {
       (λ tells image step. touched image step)
 
 -- where it is done
-pub done_extends : {H : Type 0} (m : HostModel H) (words : List (List ℕ)) (job : Job) {old new : H} → IsJob words job
-    → IsSoundImage (m.contents old) → HasBegun m words old new → ExtendsOrNot m job old new
+pub done_extends : {H : Type 0} (m : HostModel H) (words : List (List ℕ)) (job : Job) {old new : H} {status : ℕ} → IsJob words job
+    → IsSoundImage (m.contents old) → HasBegun m words old new → ExtendsOrNot m job old new status
 done_extends m words job {old = old} {new = new} is sound begun = inr (record {
   synced = begun.synced;
   before = begun.before;
@@ -526,14 +528,19 @@ why_told job start between image extends part =
 
 -- and where it is refused, and this is told
 pub refused_extends : {H : Type 0} (m : HostModel H) (words : List (List ℕ)) (job : Job) {why : Stop} {old middle new : H} {status : ℕ}
-    → IsJob words job → IsSoundImage (m.contents old) → HasBegunOrNot m words old middle → WasTold m why middle new status
-    → ExtendsOrNot m job old new
-refused_extends m words job is sound (inl none) told =
-    inl (leads_then none told.spoke.leads (λ start image same. record {
-      files = ap (λ (i : Image). i.file) same;
-      out = ap (λ (i : Image). i.said channels.Out) same;
-    }) (λ start between image same part. untouched_told start between image same part))
-refused_extends m words job {old = old} {middle = middle} is sound (inr begun) told = inr (record {
+    → IsJob words job → (why ≡ stop.Words → IsNoCommand words) → IsSoundImage (m.contents old)
+    → HasBegunOrNot m words old middle why → WasTold m why middle new status → ExtendsOrNot m job old new status
+refused_extends m words job is none_is sound (inl none) told = inl (
+  leads_then none.0 told.spoke.leads (λ start image same. record {
+    files = ap (λ (i : Image). i.file) same;
+    out = ap (λ (i : Image). i.said channels.Out) same;
+  }) (λ start between image same part. untouched_told start between image same part),
+  elim none.1 [
+    | inl words_are ↦ absurd (none_is words_are job is)
+    | inr free ↦ free_answer free (told_kept told)
+  ],
+)
+refused_extends m words job {old = old} {middle = middle} is none_is sound (inr begun) told = inr (record {
   synced = begun.synced;
   before = begun.before;
   durable = begun.durable;

@@ -16,7 +16,7 @@ use Rattle.nb_engine.specs.declared.refusal.Refusal.{Refusal}
 use Rattle.nb_engine.specs.declared.refusal.Refusal.TheVariants as refusal
 use Rattle.nb_engine.specs.Files.{params_file, init_file}
 use Rattle.nb_engine.specs.Refusal.{NeedsNoCause}
-use Rattle.nb_engine.specs.Start.{Start, HasStart, start_refusal, IsStartReady, IsStartRefused, IsOfStart}
+use Rattle.nb_engine.specs.Start.{Start, HasStart, start_refusal, IsStartReady, IsStartRefused, IsOfParameters, IsOfStart}
 use Rattle.nb_cli.specs.declared.words.Job.TheVariants as job
 use Rattle.nb_cli.specs.Make.{body_at, made_bodies, made_params, made_start, HasMade}
 use Rattle.nb_cli.specs.Demo.{IsOfDemo, start_behind_make, go_behind_start}
@@ -134,3 +134,9 @@ start_of_demo refusal.Device of_start = tt
 start_of_demo (refusal.Damaged page) of_start = tt
 start_of_demo refusal.NoMemory of_start = tt
 start_of_demo _ of_start = absurd of_start
+
+pub parameters_of_demo : (why : Refusal) → IsOfParameters why → IsOfDemo (start_behind_make why)
+parameters_of_demo (refusal.Params error) of_parameters = tt
+parameters_of_demo refusal.Device of_parameters = tt
+parameters_of_demo refusal.NoMemory of_parameters = tt
+parameters_of_demo _ of_parameters = absurd of_parameters

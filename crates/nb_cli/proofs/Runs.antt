@@ -21,13 +21,14 @@ use Rattle.nb_engine.specs.Refusal.{of_host, NeedsNoCause}
 use Rattle.nb_engine.specs.Shown.{TellsLog}
 use Rattle.nb_journal.specs.Form.{Log, IsJournal}
 use Rattle.nb_journal.specs.Offsets.{journal_file}
+use Rattle.nb_cli.specs.declared.words.Job.{Job}
 use Rattle.nb_cli.specs.declared.words.Job.TheVariants as job
 use Rattle.nb_engine.specs.Start.{Start}
 use Rattle.nb_cli.specs.Once.{once_file, ticks_to as ticks_from, list_at, IsReady}
 use Rattle.nb_cli.specs.Done.{TellsOf, BecomesAny, MayWrite}
 use Rattle.nb_cli.specs.Show.{folder_text, show_text}
 use Rattle.nb_engine.specs.Steps.{SaidFrontOf}
-use Rattle.nb_cli.specs.Answer.{IsPartlyDone, JobTouches, CountsRun, SyncsRun}
+use Rattle.nb_cli.specs.Answer.{IsPartlyDone, JobTouches, JobBegins, JobBeginsOrNot, CountsRun, SyncsRun}
 
 pub Out≢Err : ◌≡◌ {A = Channel} channels.Err channels.Out → ⊥
 Out≢Err same = cc
@@ -317,6 +318,26 @@ counts_said {m = m} {new = new} {answer = answer} syncs ran ok spoke =
       counted (Ok tt) before behind all = all
       counted (Err Fault) before behind all = omega (arith, all)
       counted (Err NoMemory) before behind all = omega (arith, all)
+
+-- What a run that is refused is behind its first sync, and what before.
+
+pub host_needless : (error : HostError) → NeedsNoCause (of_host error)
+host_needless Fault = inl refl
+host_needless NoMemory = inr refl
+
+pub unsynced_run : {H : Type 0} (m : HostModel H) (job : Job) (error : HostError) {old new : H} → Leads m Stays old new
+    → JobBeginsOrNot m job old new (of_host error)
+unsynced_run m job error stays = inl (stays, host_needless error)
+
+pub begun_run : {H : Type 0} (m : HostModel H) (job : Job) (why : Refusal) {old new : H} → JobBegins m job old new
+    → JobBeginsOrNot m job old new why
+begun_run m job why begun = inr begun
+
+-- behind the first sync nothing was changed
+pub still_run : {H : Type 0} {m : HostModel H} {honest : Bool} {files : ℕ → List ℕ} (job : Job) {old new : H} → Leads m Stays old new
+    → Leads m (JobTouches honest files job) old new
+still_run job stays =
+    leads_more stays (λ start image same. record { touches = inl same; err = ap (λ (i : Image). i.said channels.Err) same })
 
 -- What `show` says.
 

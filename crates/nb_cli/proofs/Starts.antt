@@ -1,5 +1,7 @@
 -- What `once` finds in its files, and why it refuses it.
-use Rattle.std.proofs.Common.{◌≡◌, ◌⊎◌, inl, inr, ℕ, ◌<◌, Ok, Some, List, [], length, refl, sym, ap, subst, ◌∙◌, arith}
+use Rattle.std.proofs.Common.{◌≡◌, ◌⊎◌, inl, inr, ℕ, ◌<◌, Bool, true, false, Ok, None, Some, List, [], length, refl, sym, ap, subst, ◌∙◌, arith}
+use Rattle.std.specs.Prelude.{nat_lt, if◌then◌else◌, ◌*◌}
+use Rattle.std.specs.Option.{option_or}
 use Rattle.std.proofs.lemmas.Bool.Decides.{nat_tests}
 use Rattle.nb_model.specs.declared.body.Body.{Body}
 use Rattle.nb_model.specs.declared.params.Params.{Params}
@@ -15,11 +17,12 @@ use Rattle.nb_format.specs.Reader.{HasRead}
 use Rattle.nb_format.specs.Snapshot.{IsSnapshot}
 use Rattle.nb_format.specs.SnapshotRefusal.{snapshot_refusal, IsBySnapshot}
 use Rattle.nb_format.specs.Writer.{IsFinishedAs}
+use Rattle.nb_engine.specs.declared.refusal.Refusal.{Refusal}
 use Rattle.nb_engine.specs.declared.refusal.Refusal.TheVariants as refusal
 use Rattle.nb_engine.specs.Refusal.{NeedsNoCause, of_snapshot}
-use Rattle.nb_engine.specs.Start.{Start, HasStart}
+use Rattle.nb_engine.specs.Start.{Start, HasStart, IsOfParameters}
 use Rattle.nb_engine.specs.Files.{params_file, init_file}
-use Rattle.nb_cli.specs.Once.{once_file, most_once_bodies, list_at, once_refusal, IsRefused}
+use Rattle.nb_cli.specs.Once.{once_file, most_once_bodies, list_at, once_refusal, IsOfOnce, IsRefused}
 
 snapshot_refused : {files : ℕ → List ℕ} {target : ℕ} {params : Params} {error : SnapError} → params_of (files params_file) ≡ Ok params
     → snapshot_refusal (files init_file) ≡ Some error → NeedsNoCause (refusal.Snapshot error) ⊎ IsRefused files target (refusal.Snapshot error)
@@ -86,3 +89,45 @@ written_list {old} {middle} {now} {listed} {list} {target} same is written =
     let P : Image → Type 0 = λ image. FileBecomes once_file (IsFinishedAs listed target) image now in
     let Q : List Body → Type 0 = λ xs. FileBecomes once_file (IsFinishedAs xs target) old now in
     subst Q is (subst P same written)
+
+-- ---- which refusals `once` gives
+
+pub parameters_of_once : (why : Refusal) → IsOfParameters why → IsOfOnce why
+parameters_of_once (refusal.Params error) of_parameters = of_parameters
+parameters_of_once refusal.Device of_parameters = tt
+parameters_of_once refusal.NoMemory of_parameters = tt
+parameters_of_once _ of_parameters = absurd of_parameters
+
+pub snapshot_of_once : (error : SnapError) → IsOfOnce (of_snapshot error)
+snapshot_of_once snap.Fault = tt
+snapshot_of_once snap.NoMemory = tt
+snapshot_of_once snap.Short = tt
+snapshot_of_once snap.Unfinished = tt
+snapshot_of_once snap.Magic = tt
+snapshot_of_once snap.Count = tt
+snapshot_of_once snap.Zeros = tt
+snapshot_of_once snap.Length = tt
+snapshot_of_once (snap.IdOrder i) = tt
+snapshot_of_once (snap.Mass i) = tt
+snapshot_of_once (snap.Flag i) = tt
+snapshot_of_once (snap.Place i) = tt
+snapshot_of_once (snap.Speed i) = tt
+
+-- the three tests of a start, by what each of them is
+chosen_of_once : (many heavy far : Bool) (a b c d : ℕ) {why : Refusal}
+    → (if many then Some (refusal.TooMany a) else option_or (if heavy then Some (refusal.TooHeavy b c) else None)
+    (if far then Some (refusal.TickLimit d) else None)) ≡ Some why
+    → IsOfOnce why
+chosen_of_once true heavy far a b c d is = subst IsOfOnce (inside is) tt where
+  inside : {x y : Refusal} → Some x ≡ Some y → x ≡ y
+  inside same = cc
+chosen_of_once false true far a b c d is = subst IsOfOnce (inside is) tt where
+  inside : {x y : Refusal} → Some x ≡ Some y → x ≡ y
+  inside same = cc
+chosen_of_once false false true a b c d is = subst IsOfOnce (inside is) tt where
+  inside : {x y : Refusal} → Some x ≡ Some y → x ≡ y
+  inside same = cc
+chosen_of_once false false false a b c d is = absurd (cc)
+
+pub start_of_once : (target : ℕ) (start : Start) {why : Refusal} → once_refusal target start ≡ Some why → IsOfOnce why
+start_of_once target start is = chosen_of_once _ _ _ _ _ _ _ is

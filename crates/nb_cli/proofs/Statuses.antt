@@ -8,7 +8,7 @@ use Rattle.nb_host.specs.declared.host.HostError.TheVariants.{Fault, NoMemory}
 use Rattle.nb_host.specs.Image.{Image, SaysPart}
 use Rattle.nb_host.specs.Meaning.{HostModel, Leads}
 use Rattle.nb_host.specs.Crashes.{Stays}
-use Rattle.nb_host.proofs.Callers.{leads_more, leads_then, leads_before, stays_contents}
+use Rattle.nb_host.proofs.Callers.{leads_none, leads_more, leads_then, leads_before, stays_contents}
 use Rattle.nb_model.specs.Leapfrog.{escaped_count}
 use Rattle.nb_format.specs.Lines.{made_line, once_line}
 use Rattle.nb_format.specs.Snapshot.{IsSnapshot, IsUnfinished}
@@ -35,7 +35,7 @@ use Rattle.nb_engine.specs.Files.{init_file}
 use Rattle.nb_cli.specs.Make.{HasMade, ParamsComeFirst, IsMaking, IsMakeUnderWay}
 use Rattle.nb_cli.specs.Telling.{HasGone, LeadsThenTells, TellsFront}
 use Rattle.nb_cli.specs.Demo.{demo_text, LeadsOn, StartsOn, IsDemoUnderWay}
-use Rattle.nb_cli.specs.Answer.{statuses, Yields, ComesWhere, ComesByCause, HasCause, HasCauseOf, HasSpoilt, IsSpoiltBy, IsJobReady, IsJobRefused, IsJobDone, IsJobPartlyDone, BringsUp, BringsUpWords, IsUntouched, IsLeftSo, LeavesAll, Touches, RunTouches, JobTouches, HasBegun, HasBegunOrNot, JobBegins, WasTold}
+use Rattle.nb_cli.specs.Answer.{statuses, Yields, ComesWhere, ComesByCause, HasCause, HasCauseOf, HasSpoilt, IsSpoiltBy, IsJobReady, IsJobRefused, IsJobDone, IsJobPartlyDone, BringsUp, BringsUpWords, IsUntouched, IsLeftSo, LeavesAll, Touches, RunTouches, JobTouches, HasBegun, HasBegunOrNot, JobBegins, JobBeginsOrNot, WasTold}
 use Rattle.nb_cli.proofs.Commands.{one_job}
 use Rattle.nb_cli.proofs.Causes.{IsCause, no_cause, one_cause, not_gone, not_shown, not_refused_job}
 use Rattle.nb_cli.proofs.Saying.{behind_answer, behind_kept}
@@ -84,7 +84,7 @@ free_yields (inl is) = inl (ap stop_status is)
 free_yields (inr is) = inr (ap stop_status is)
 
 -- a refusal without a cause is answered by its own status
-free_answer : {why : Stop} {result : ℕ} → IsWithoutCause why → (Yields (stop_status why) → result ≡ stop_status why) → Yields result
+pub free_answer : {why : Stop} {result : ℕ} → IsWithoutCause why → (Yields (stop_status why) → result ≡ stop_status why) → Yields result
 free_answer free kept = let yields = free_yields free in subst Yields (sym (kept yields)) yields
 
 -- A command that was done could be done.
@@ -473,10 +473,24 @@ begins_run is begun = record {
   since = leads_more begun.since (λ start image step. run_touches is step);
 }
 
-pub begins_or_not : {H : Type 0} {m : HostModel H} {words : List (List ℕ)} {job : Job} {old new : H} → IsJob words job
-    → Leads m Stays old new ⊎ JobBegins m job old new → HasBegunOrNot m words old new
-begins_or_not is (inl none) = inl none
+pub begins_or_not : {H : Type 0} {m : HostModel H} {words : List (List ℕ)} {job : Job} {old new : H} {why : Refusal} → IsJob words job
+    → JobBeginsOrNot m job old new why → HasBegunOrNot m words old new (stop.Refused why)
+begins_or_not is (inl none) = inl (
+  none.0,
+  inr (elim none.1 [
+    | inl device ↦ inl (ap stop.Refused device)
+    | inr memory ↦ inr (ap stop.Refused memory)
+  ]),
+)
 begins_or_not is (inr begun) = inr (begins_run is begun)
+
+-- no call was made
+pub begins_no_words : {H : Type 0} (m : HostModel H) (words : List (List ℕ)) (host : H) → HasBegunOrNot m words host host stop.Words
+begins_no_words m words host = inl (leads_none m host (λ image. refl), inl refl)
+
+pub begins_no_memory : {H : Type 0} (m : HostModel H) (words : List (List ℕ)) (host : H)
+    → HasBegunOrNot m words host host (stop.Refused refusal.NoMemory)
+begins_no_memory m words host = inl (leads_none m host (λ image. refl), inr (inr refl))
 
 nothing_touched : {honest : Bool} {words : List (List ℕ)} {files : ℕ → List ℕ} {old now : Image} → now ≡ old
     → RunTouches honest words files old now
@@ -488,11 +502,15 @@ nothing_touched same = record {
   err = ap (λ (image : Image). image.said channels.Err) same;
 }
 
--- whatever it was, where it led
-pub run_leads : {H : Type 0} {m : HostModel H} {words : List (List ℕ)} {old new : H} → HasBegunOrNot m words old new
+-- where it led
+pub begun_leads : {H : Type 0} {m : HostModel H} {words : List (List ℕ)} {old new : H} → HasBegun m words old new
     → Leads m (RunTouches m.crashes.is_honest words (m.contents old).file) old new
-run_leads (inl none) = leads_more none (λ start image same. nothing_touched same)
-run_leads (inr begun) = leads_before (λ image. nothing_touched refl) begun.before begun.since
+begun_leads begun = leads_before (λ image. nothing_touched refl) begun.before begun.since
+
+pub run_leads : {H : Type 0} {m : HostModel H} {words : List (List ℕ)} {old new : H} {why : Stop} → HasBegunOrNot m words old new why
+    → Leads m (RunTouches m.crashes.is_honest words (m.contents old).file) old new
+run_leads (inl none) = leads_more none.0 (λ start image same. nothing_touched same)
+run_leads (inr begun) = begun_leads begun
 
 pub leads_run : {H : Type 0} {m : HostModel H} {honest : Bool} {words : List (List ℕ)} {files : ℕ → List ℕ} {old new : H}
     → Leads m (RunTouches honest words files) old new → Leads m (Touches honest words files) old new

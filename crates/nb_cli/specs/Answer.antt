@@ -13,7 +13,7 @@ use Rattle.nb_journal.specs.Offsets.{journal_file}
 use Rattle.nb_engine.specs.declared.refusal.Refusal.{Refusal}
 use Rattle.nb_engine.specs.declared.refusal.Refusal.TheVariants as refusal
 use Rattle.nb_engine.specs.Due.{IsLastDue}
-use Rattle.nb_engine.specs.Refusal.{of_host}
+use Rattle.nb_engine.specs.Refusal.{of_host, NeedsNoCause}
 use Rattle.nb_engine.specs.Represents.{snap_of}
 use Rattle.nb_engine.specs.Sessions.{GoLeads, ResumeLeads, IsBroughtUp, IsGoRefused, IsOfLeg, CanGo, CanResume, IsSlotSpoilt}
 use Rattle.nb_engine.specs.Shown.{IsNotShown}
@@ -253,9 +253,14 @@ pub record JobBegins {H : Type 0} (m : HostModel H) (job : Job) (old new : H) : 
   pub durable : IsDurable m synced
   pub since : Leads m (JobTouches m.crashes.is_honest (m.contents old).file job) synced new
 
--- It did, or nothing was done at all.
-abbrev pub HasBegunOrNot : {H : Type 0} → HostModel H → List (List ℕ) → H → H → Type 0
-HasBegunOrNot m words old new = Leads m Stays old new ⊎ HasBegun m words old new
+-- It did; or nothing was done at all, and the device failed or memory is wanting.
+abbrev pub JobBeginsOrNot : {H : Type 0} → HostModel H → Job → H → H → Refusal → Type 0
+JobBeginsOrNot m job old new why = (Leads m Stays old new × NeedsNoCause why) ⊎ JobBegins m job old new
+
+-- The same of the program, where nothing was done also where the words are no command.
+abbrev pub HasBegunOrNot : {H : Type 0} → HostModel H → List (List ℕ) → H → H → Stop → Type 0
+HasBegunOrNot m words old new why =
+    (Leads m Stays old new × ((why ≡ stop.Words) ⊎ IsWithoutCause why)) ⊎ HasBegun m words old new
 
 -- The command was done: what it did is durable, and no fault was met.
 pub record HasDone {H : Type 0} (m : HostModel H) (words : List (List ℕ)) (old new : H) : Type 0 where
@@ -294,7 +299,7 @@ pub record WasRefused {H : Type 0} (m : HostModel H) (words : List (List ℕ)) (
   pub why : Stop
   pub ended : H
   pub cause : IsTrue m.tells → HasCause words (m.contents old).file why ⊎ HasSpoilt words (m.contents old).file why ⊎ IsWithoutCause why
-  pub run : HasBegunOrNot m words old ended
+  pub run : HasBegunOrNot m words old ended why
   pub brought : BringsUpWords m words old ended why
   pub counts : CountsWords m words old ended (Err why)
   pub told : WasTold m why ended new status

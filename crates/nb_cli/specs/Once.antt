@@ -1,5 +1,5 @@
 -- The command `once`: which files it takes, what it makes of them, and when it refuses.
-use Rattle.std.specs.Prelude.{◌≡◌, ◌⊎◌, ℕ, ◌+◌, ◌-◌, nat_lt, if◌then◌else◌, Option, None, Some, List, length}
+use Rattle.std.specs.Prelude.{◌≡◌, ◌⊎◌, ⊤, ℕ, ◌+◌, ◌-◌, nat_lt, if◌then◌else◌, Option, None, Some, List, length}
 use Rattle.std.specs.Option.{option_or}
 use Rattle.nb_model.specs.declared.body.Body.{Body}
 use Rattle.nb_model.specs.declared.params.Params.{Params}
@@ -8,6 +8,8 @@ use Rattle.nb_model.specs.Leapfrog.{steps}
 use Rattle.nb_model.specs.Legs.{directions_to}
 use Rattle.nb_format.specs.declared.params_error.ParamsError.{ParamsError}
 use Rattle.nb_format.specs.declared.snap_error.SnapError.{SnapError}
+use Rattle.nb_format.specs.ParamsText.{NamesParameter}
+use Rattle.nb_format.specs.SnapshotRefusal.{IsBySnapshot}
 use Rattle.nb_engine.specs.declared.refusal.Refusal.{Refusal}
 use Rattle.nb_engine.specs.declared.refusal.Refusal.TheVariants as refusal
 use Rattle.nb_engine.specs.Start.{Start, HasStart, start_refusal, HasNoParams, HasNoSnapshot}
@@ -45,6 +47,17 @@ pub record IsReady (files : ℕ → List ℕ) (target : ℕ) (start : Start) : T
 pub record IsNotTaken (files : ℕ → List ℕ) (target : ℕ) (start : Start) (why : Refusal) : Type 0 where
   pub starts : HasStart files start
   pub refused : once_refusal target start ≡ Some why
+
+-- a refusal that `once` gives, whatever the host tells
+abbrev pub IsOfOnce : Refusal → Type 0
+IsOfOnce (refusal.Params error) = NamesParameter error
+IsOfOnce (refusal.Snapshot error) = IsBySnapshot error
+IsOfOnce (refusal.TooMany _) = ⊤
+IsOfOnce (refusal.TooHeavy _ _) = ⊤
+IsOfOnce (refusal.TickLimit _) = ⊤
+IsOfOnce refusal.Device = ⊤
+IsOfOnce refusal.NoMemory = ⊤
+IsOfOnce _ = ⊥
 
 -- The first cause, in this order, for which `once` refuses by what its files hold: the parameter text, the snapshot, and
 -- what they spell.

@@ -15,7 +15,7 @@ use Rattle.nb_engine.specs.Represents.{snap_of, RepresentsRun, RepresentsHistory
 use Rattle.nb_engine.specs.Start.{Start, IsStartReady, started}
 use Rattle.nb_cli.specs.declared.words.Job.{Job}
 use Rattle.nb_cli.specs.declared.words.Job.TheVariants as job
-use Rattle.nb_cli.specs.Answer.{IsUntouched}
+use Rattle.nb_cli.specs.Answer.{Yields, IsUntouched}
 use Rattle.nb_cli.specs.Make.{made_start, HasMade, CanMake}
 use Rattle.nb_cli.specs.Demo.{CanDemo}
 use Rattle.nb_cli.specs.Once.{once_file}
@@ -120,9 +120,9 @@ pub record ExtendsSince {H : Type 0} (m : HostModel H) (job : Job) (old new : H)
   pub durable : IsDurable m synced
   pub since : EachImage m (Extends job (m.contents old)) synced new
 
--- It did so, or it did nothing, but that it may have told on Err why.
-abbrev pub ExtendsOrNot : {H : Type 0} → HostModel H → Job → H → H → Type 0
-ExtendsOrNot m job old new = Leads m IsUntouched old new ⊎ ExtendsSince m job old new
+-- It did so; or it did nothing, but that it may have told on Err why, and the device failed or memory is wanting.
+abbrev pub ExtendsOrNot : {H : Type 0} → HostModel H → Job → H → H → ℕ → Type 0
+ExtendsOrNot m job old new status = (Leads m IsUntouched old new × Yields status) ⊎ ExtendsSince m job old new
 
 -- ---- sessions, one after the other
 

@@ -11,9 +11,8 @@ ghost use Rattle.nb_host.specs.Image.{FileBecomes};
 ghost use Rattle.nb_host.specs.Meaning.{Over, RanSyncing, IsDurable};
 ghost use Rattle.nb_format.specs.Writer.{IsFinishedAs};
 ghost use Rattle.nb_engine.specs.Refusal.{NeedsNoCause};
-ghost use Rattle.nb_cli.specs.Stop.{IsGiven};
 ghost use Rattle.nb_engine.specs.Start.{Start, start_refusal as refusal_of_start};
-ghost use Rattle.nb_cli.specs.Once.{once_file, most_once_bodies, ticks_to, list_at, once_refusal as refusal_of_once, IsReady, IsRefused};
+ghost use Rattle.nb_cli.specs.Once.{once_file, most_once_bodies, ticks_to, list_at, once_refusal as refusal_of_once, IsReady, IsOfOnce, IsRefused};
 ghost use Rattle.nb_cli.specs.Answer.{once_syncs};
 ghost use Rattle.nb_cli.specs.Done.{TellsOf, BecomesAny, MayWrite};
 
@@ -51,7 +50,7 @@ pub fn once<H: Host>(alloc: Global, host: &mut H, target: u64) -> Result<Done, R
         (H.meaning.contents host.old) (H.meaning.contents host.new)) }
     ensures cause { IfErr result (λ why. IsTrue H.meaning.tells
         → NeedsNoCause why ⊎ IsRefused (H.meaning.contents host.old).file target why) }
-    ensures given { IfErr result IsGiven }
+    ensures refusals { IfErr result IsOfOnce }
 
     // What it leaves at each moment: all as it was, until it comes so far as to write.
     ensures durable { OnOk result (IsDurable H.meaning host.new) }

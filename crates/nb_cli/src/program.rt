@@ -1,7 +1,7 @@
 //! The top call, which does all that the program does.
 
 ghost use Rattle.std.specs.Prelude.{◌≡◌, ◌≢◌, ◌⊎◌, ℕ, ◌↔◌, IsTrue, OnOk, IfErr, Err, map, Contains};
-ghost use Rattle.nb_host.specs.Crashes.{Stays, EverySince};
+ghost use Rattle.nb_host.specs.Crashes.{EverySince};
 ghost use Rattle.nb_host.specs.Image.{Image};
 ghost use Rattle.nb_host.specs.Meaning.{Leads, IsDurable};
 ghost use Rattle.nb_engine.specs.Refusal.{NeedsNoCause};
@@ -13,7 +13,7 @@ ghost use Rattle.nb_engine.specs.declared.refusal.Refusal.TheVariants as refusal
 ghost use Rattle.nb_cli.specs.Words.{IsJob, IsPaced, IsNoCommand};
 ghost use Rattle.nb_cli.specs.Worlds.{ExtendsOrNot};
 ghost use Rattle.nb_cli.specs.Stop.{IsGiven, IsSayable, IsWithoutCause};
-ghost use Rattle.nb_cli.specs.Answer.{statuses, Yields, ComesWhere, ComesByCause, HasCause, HasSpoilt, IsSpoiltBy, IsJobReady, IsJobRefused, IsJobSpoilt, IsJobDone, LeavesAll, Touches, CountsRun, CountsWords, syncs_of, HasBegun, HasBegunOrNot, JobBegins, HasDone, BringsUp, BringsUpWords, WasTold, WasRefused};
+ghost use Rattle.nb_cli.specs.Answer.{statuses, Yields, ComesWhere, ComesByCause, HasCause, HasSpoilt, IsSpoiltBy, IsJobReady, IsJobRefused, IsJobSpoilt, IsJobDone, LeavesAll, Touches, CountsRun, CountsWords, syncs_of, HasBegun, HasBegunOrNot, JobBegins, JobBeginsOrNot, HasDone, BringsUp, BringsUpWords, WasTold, WasRefused};
 
 use crate::demo_command::demo;
 use crate::make_command::make;
@@ -56,7 +56,7 @@ pub fn nbody<H: Host>(alloc: Global, words: &[&str], host: &mut H) -> u8
         → H.meaning.crashes.may_leave host.old image → IsSoundImage image)
         → EverySince H.meaning.crashes IsSoundImage host.old host.new }
     ensures extends { (job : Job) → IsJob (map (λ w. w.now) words.now) job
-        → IsSoundImage (H.meaning.contents host.old) → ExtendsOrNot H.meaning job host.old host.new }
+        → IsSoundImage (H.meaning.contents host.old) → ExtendsOrNot H.meaning job host.old host.new result }
 {
     law_acknowledged();
     match run(alloc, words, host) {
@@ -81,7 +81,7 @@ fn run<H: Host>(alloc: Global, words: &[&str], host: &mut H) -> Result<(), Stop>
     ensures durable { OnOk result (IsDurable H.meaning host.new) }
     ensures begun { OnOk result (HasBegun H.meaning (map (λ w. w.now) words.now) host.old host.new) }
     ensures brought { IfErr result (BringsUpWords H.meaning (map (λ w. w.now) words.now) host.old host.new) }
-    ensures run { HasBegunOrNot H.meaning (map (λ w. w.now) words.now) host.old host.new }
+    ensures run { IfErr result (HasBegunOrNot H.meaning (map (λ w. w.now) words.now) host.old host.new) }
     ensures counts { CountsWords H.meaning (map (λ w. w.now) words.now) host.old host.new result }
 {
     match read_words(alloc, words) {
@@ -106,7 +106,7 @@ fn run_job<H: Host>(alloc: Global, host: &mut H, job: Job) -> Result<(), Refusal
     ensures durable { OnOk result (IsDurable H.meaning host.new) }
     ensures begun { OnOk result (JobBegins H.meaning job host.old host.new) }
     ensures brought { IfErr result (BringsUp H.meaning job host.old host.new) }
-    ensures run { Leads H.meaning Stays host.old host.new ⊎ JobBegins H.meaning job host.old host.new }
+    ensures run { IfErr result (JobBeginsOrNot H.meaning job host.old host.new) }
     ensures counts { CountsRun H.meaning (syncs_of job) host.old host.new result }
 {
     match job {
@@ -131,7 +131,7 @@ fn run_start<H: Host>(alloc: Global, host: &mut H, pages: u64) -> Result<(), Ref
         (H.meaning.contents host.old) (H.meaning.contents host.new)) }
     ensures durable { OnOk result (IsDurable H.meaning host.new) }
     ensures begun { OnOk result (JobBegins H.meaning (job.Start pages) host.old host.new) }
-    ensures run { Leads H.meaning Stays host.old host.new ⊎ JobBegins H.meaning (job.Start pages) host.old host.new }
+    ensures run { IfErr result (JobBeginsOrNot H.meaning (job.Start pages) host.old host.new) }
     ensures counts { CountsRun H.meaning (syncs_of (job.Start pages)) host.old host.new result }
 {
     host.sync()?;
@@ -153,7 +153,7 @@ fn run_go<H: Host>(alloc: Global, host: &mut H, target: u64, pace: Pace) -> Resu
     ensures durable { OnOk result (IsDurable H.meaning host.new) }
     ensures begun { OnOk result (JobBegins H.meaning (job.Go target pace) host.old host.new) }
     ensures brought { IfErr result (BringsUp H.meaning (job.Go target pace) host.old host.new) }
-    ensures run { Leads H.meaning Stays host.old host.new ⊎ JobBegins H.meaning (job.Go target pace) host.old host.new }
+    ensures run { IfErr result (JobBeginsOrNot H.meaning (job.Go target pace) host.old host.new) }
     ensures counts { CountsRun H.meaning (syncs_of (job.Go target pace)) host.old host.new result }
 {
     host.sync()?;
@@ -174,7 +174,7 @@ fn run_resume<H: Host>(alloc: Global, host: &mut H, pace: Pace) -> Result<(), Re
         (H.meaning.contents host.old) (H.meaning.contents host.new)) }
     ensures durable { OnOk result (IsDurable H.meaning host.new) }
     ensures begun { OnOk result (JobBegins H.meaning (job.Resume pace) host.old host.new) }
-    ensures run { Leads H.meaning Stays host.old host.new ⊎ JobBegins H.meaning (job.Resume pace) host.old host.new }
+    ensures run { IfErr result (JobBeginsOrNot H.meaning (job.Resume pace) host.old host.new) }
     ensures counts { CountsRun H.meaning (syncs_of (job.Resume pace)) host.old host.new result }
 {
     host.sync()?;
@@ -194,7 +194,7 @@ fn run_once<H: Host>(alloc: Global, host: &mut H, target: u64) -> Result<(), Ref
         (H.meaning.contents host.old) (H.meaning.contents host.new)) }
     ensures durable { OnOk result (IsDurable H.meaning host.new) }
     ensures begun { OnOk result (JobBegins H.meaning (job.Once target) host.old host.new) }
-    ensures run { Leads H.meaning Stays host.old host.new ⊎ JobBegins H.meaning (job.Once target) host.old host.new }
+    ensures run { IfErr result (JobBeginsOrNot H.meaning (job.Once target) host.old host.new) }
     ensures counts { CountsRun H.meaning (syncs_of (job.Once target)) host.old host.new result }
 {
     host.sync()?;
@@ -214,7 +214,7 @@ fn run_show<H: Host>(alloc: Global, host: &mut H) -> Result<(), Refusal>
         (H.meaning.contents host.old) (H.meaning.contents host.new)) }
     ensures durable { OnOk result (IsDurable H.meaning host.new) }
     ensures begun { OnOk result (JobBegins H.meaning job.Show host.old host.new) }
-    ensures run { Leads H.meaning Stays host.old host.new ⊎ JobBegins H.meaning job.Show host.old host.new }
+    ensures run { IfErr result (JobBeginsOrNot H.meaning job.Show host.old host.new) }
     ensures counts { CountsRun H.meaning (syncs_of job.Show) host.old host.new result }
 {
     host.sync()?;
@@ -235,7 +235,7 @@ fn run_make<H: Host>(host: &mut H, seed: u64, count: u64) -> Result<(), Refusal>
         (H.meaning.contents host.old) (H.meaning.contents host.new)) }
     ensures durable { OnOk result (IsDurable H.meaning host.new) }
     ensures begun { OnOk result (JobBegins H.meaning (job.Make seed count) host.old host.new) }
-    ensures run { Leads H.meaning Stays host.old host.new ⊎ JobBegins H.meaning (job.Make seed count) host.old host.new }
+    ensures run { IfErr result (JobBeginsOrNot H.meaning (job.Make seed count) host.old host.new) }
     ensures counts { CountsRun H.meaning (syncs_of (job.Make seed count)) host.old host.new result }
 {
     host.sync()?;
@@ -263,8 +263,7 @@ fn run_demo<H: Host>(
         (H.meaning.contents host.old) (H.meaning.contents host.new)) }
     ensures durable { OnOk result (IsDurable H.meaning host.new) }
     ensures begun { OnOk result (JobBegins H.meaning (job.Demo seed count target pace) host.old host.new) }
-    ensures run { Leads H.meaning Stays host.old host.new
-        ⊎ JobBegins H.meaning (job.Demo seed count target pace) host.old host.new }
+    ensures run { IfErr result (JobBeginsOrNot H.meaning (job.Demo seed count target pace) host.old host.new) }
     ensures counts { CountsRun H.meaning (syncs_of (job.Demo seed count target pace)) host.old host.new result }
 {
     host.sync()?;

@@ -23,7 +23,7 @@ use Rattle.nb_engine.specs.declared.refusal.Refusal.{Refusal}
 use Rattle.nb_engine.specs.declared.refusal.Refusal.TheVariants as refusal
 use Rattle.nb_engine.specs.Files.{params_file, init_file}
 use Rattle.nb_engine.specs.Refusal.{NeedsNoCause, of_snapshot}
-use Rattle.nb_engine.specs.Start.{Start, HasStart, HasNoParams, start_refusal, IsStartRefused, IsOfStart}
+use Rattle.nb_engine.specs.Start.{Start, HasStart, HasNoParams, start_refusal, IsStartRefused, IsOfParameters, IsOfStart}
 
 -- ---- calls that only read, one after the other
 
@@ -123,7 +123,14 @@ refused_by_snapshot (snap.Flag i) fresh parameters why = snapshot_refused fresh 
 refused_by_snapshot (snap.Place i) fresh parameters why = snapshot_refused fresh parameters (why tt)
 refused_by_snapshot (snap.Speed i) fresh parameters why = snapshot_refused fresh parameters (why tt)
 
--- It is one that `start` gives.
+-- What the parameters are refused by is one that `start` gives.
+pub parameters_of_start : (why : Refusal) → IsOfParameters why → IsOfStart why
+parameters_of_start (refusal.Params error) of_parameters = of_parameters
+parameters_of_start refusal.Device of_parameters = tt
+parameters_of_start refusal.NoMemory of_parameters = tt
+parameters_of_start _ of_parameters = absurd of_parameters
+
+-- and so is what the snapshot is refused by
 pub snapshot_of_start : (error : SnapError) → IsOfStart (of_snapshot error)
 snapshot_of_start snap.Fault = tt
 snapshot_of_start snap.NoMemory = tt

@@ -100,6 +100,13 @@ pub record StartLeads (honest : Bool) (old new : Image) : Type 0 where
 abbrev pub IsReadFile : ℕ → Type 0
 IsReadFile number = (number ≡ init_file) ⊎ IsPagedFile number
 
+-- a refusal of the parameters, whatever the host tells
+abbrev pub IsOfParameters : Refusal → Type 0
+IsOfParameters (refusal.Params error) = NamesParameter error
+IsOfParameters refusal.Device = ⊤
+IsOfParameters refusal.NoMemory = ⊤
+IsOfParameters _ = ⊥
+
 -- a refusal that `start` gives, whatever the host tells
 abbrev pub IsOfStart : Refusal → Type 0
 IsOfStart (refusal.Params error) = NamesParameter error

@@ -7,7 +7,7 @@ ghost use Rattle.nb_model.specs.Valid.{AreInRange};
 ghost use Rattle.nb_host.specs.Crashes.{Stays};
 ghost use Rattle.nb_host.specs.Meaning.{Ran};
 ghost use Rattle.nb_engine.specs.declared.refusal.Refusal.TheVariants as refusal;
-ghost use Rattle.nb_engine.specs.Start.{HasNoParams, IsOfStart};
+ghost use Rattle.nb_engine.specs.Start.{HasNoParams, IsOfParameters};
 ghost use Rattle.nb_engine.specs.Files.{params_file};
 ghost use Rattle.nb_engine.specs.Refusal.{NeedsNoCause};
 
@@ -26,7 +26,7 @@ pub fn parameters<H: Host>(alloc: Global, host: &mut H) -> Result<Params, Refusa
     ensures cause { IfErr result (λ why. IsTrue H.meaning.tells → NeedsNoCause why
         ⊎ ((error : ParamsError) × HasNoParams (H.meaning.contents host.old).file error
         × (why ≡ refusal.Params error))) }
-    ensures refusals { IfErr result IsOfStart }
+    ensures refusals { IfErr result IsOfParameters }
     ensures ran { Ran H.meaning Refusal.Device Stays host.old host.new result }
 {
     let length = host.len(PARAMS_FILE)?;

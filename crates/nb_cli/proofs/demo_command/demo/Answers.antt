@@ -8,7 +8,8 @@ use Rattle.nb_cli.specs.Make.{made_start}
 use Rattle.nb_cli.specs.Demo.{IsDemoRefused, demo_list, summary_line}
 use Rattle.nb_cli.proofs.DemoCalls.{session_refused, session_unsaid, session_said}
 use Rattle.nb_cli.proofs.DemoStages.{fresh_made}
-use Rattle.nb_cli.proofs.DemoRuns.{found_ran, found_so, made_ran, made_so, reading_ran, reading_so, started_ran, started_so, led_ran, led_so, summed_ran, demo_all, begun_told, few_told, list_told, length_list, line_told, needless_of_demo, unlike_of_demo, made_of_demo, made_needless, host_needless, never_behind}
+use Rattle.nb_cli.proofs.DemoRuns.{found_ran, found_so, made_ran, made_so, reading_ran, reading_so, started_ran, started_so, led_ran, led_so, summed_ran, demo_all, begun_told, few_told, list_told, length_list, line_told, needless_of_demo, unlike_of_demo, made_of_demo, made_needless, never_behind}
+use Rattle.nb_cli.proofs.Runs.{host_needless}
 use Rattle.nb_cli.proofs.demo_command.demo.Goals as goal
 
 -- ---- where it finds something

@@ -7,7 +7,7 @@ use Rattle.nb_cli.specs.Make.{made_params}
 use Rattle.nb_cli.specs.Demo.{IsOfDemo, start_behind_make}
 use Rattle.nb_cli.proofs.DemoCalls.{reads_as, reads_then}
 use Rattle.nb_cli.proofs.DemoRuns.{needless_of_demo, unlike_of_demo}
-use Rattle.nb_cli.proofs.MadeStarts.{made_has_start, start_device, start_needless, start_of_demo}
+use Rattle.nb_cli.proofs.MadeStarts.{made_has_start, start_device, start_needless, parameters_of_demo}
 use Rattle.nb_cli.proofs.demo_command.find_made.Goals as goal
 
 pub returns-in-Err-clause-cause : goal.returns-in-Err-clause-cause
@@ -21,7 +21,7 @@ returns-in-Err-clause-cause g c = λ told made.
 
 pub returns-in-Err-clause-refusals : goal.returns-in-Err-clause-refusals
 returns-in-Err-clause-refusals g c =
-    subst IsOfDemo (sym c.start_behind_make.ensures) (start_of_demo c.in-Err.why c.in-Err.ensures.refusals)
+    subst IsOfDemo (sym c.start_behind_make.ensures) (parameters_of_demo c.in-Err.why c.in-Err.ensures.refusals)
 
 pub returns-in-Err-clause-ran : goal.returns-in-Err-clause-ran
 returns-in-Err-clause-ran g c =

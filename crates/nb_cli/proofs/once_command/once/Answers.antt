@@ -7,8 +7,7 @@ use Rattle.nb_engine.specs.declared.init_file.Census.{Census}
 use Rattle.nb_engine.specs.Refusal.{NeedsNoCause, of_snapshot}
 use Rattle.nb_engine.specs.Start.{Start, HasStart}
 use Rattle.nb_cli.specs.Once.{list_at, IsReady, IsRefused}
-use Rattle.nb_cli.proofs.Causes.{given_by_start}
-use Rattle.nb_cli.proofs.Starts.{refused_by_reader, header_read, refused_still, once_refusal-many, start_read, list_at-taken, written_list}
+use Rattle.nb_cli.proofs.Starts.{refused_by_reader, header_read, refused_still, once_refusal-many, start_read, list_at-taken, written_list, parameters_of_once, snapshot_of_once, start_of_once}
 use Rattle.nb_cli.proofs.Runs.{leads_none_written, leads_written}
 use Rattle.nb_cli.proofs.once_command.once.Goals as goal
 
@@ -201,8 +200,31 @@ returns-clause-ran g c =
 
 -- Which refusals it gives.
 
-pub returns-in_err-params-clause-given : goal.returns-in_err-params-clause-given
-returns-in_err-params-clause-given g c =
+pub returns-in_err-params-clause-refusals : goal.returns-in_err-params-clause-refusals
+returns-in_err-params-clause-refusals g c =
     let why = c.in_err-params.field-0.0 in
     let handed_on : c.from_residual.result ≡ Err why = search rules in
-    rw handed_on (given_by_start why c.in_err-params.ensures.refusals)
+    rw handed_on (parameters_of_once why c.in_err-params.ensures.refusals)
+
+pub returns-in_err-reader-clause-refusals : goal.returns-in_err-reader-clause-refusals
+returns-in_err-reader-clause-refusals g c =
+    let error = c.in_err-reader.field-0.0 in
+    let handed_on : c.from_residual-in_err-reader.result ≡ Err (of_snapshot error) = search rules in
+    rw handed_on (snapshot_of_once error)
+
+pub returns-in_err-survey-clause-refusals : goal.returns-in_err-survey-clause-refusals
+returns-in_err-survey-clause-refusals g c =
+    let error = c.in_err-survey.field-0.0 in
+    let handed_on : c.from_residual-in_err-survey.result ≡ Err (of_snapshot error) = search rules in
+    rw handed_on (snapshot_of_once error)
+
+pub returns-in_err-bodies-clause-refusals : goal.returns-in_err-bodies-clause-refusals
+returns-in_err-bodies-clause-refusals g c =
+    let error = c.in_err-bodies.field-0.0 in
+    let handed_on : c.from_residual-in_err-bodies.result ≡ Err (of_snapshot error) = search rules in
+    rw handed_on (snapshot_of_once error)
+
+pub returns-in-Some-clause-refusals : goal.returns-in-Some-clause-refusals
+returns-in-Some-clause-refusals g c =
+    let start : Start = record { params = c.in_ok-params.params; bodies = c.deref.result.now; time = c.time-time.result } in
+    start_of_once c.args.target start (sym c.once_refusal.ensures ∙ c.in-Some.is)

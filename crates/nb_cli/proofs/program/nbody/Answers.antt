@@ -1,7 +1,7 @@
-use Rattle.std.proofs.Common.{◌≡◌, ◌⊎◌, inr, ℕ, List, map, Bor, IsTrue}
+use Rattle.std.proofs.Common.{◌≡◌, ◌⊎◌, inr, ℕ, Err, ap, List, map, Bor, IsTrue}
 use Rattle.nb_cli.specs.Stop.{stop_status}
 use Rattle.nb_cli.specs.Answer.{Yields}
-use Rattle.nb_cli.proofs.Statuses.{IsRefusal, refusal_told, told_answer, told_kept, finished_no_cause, finished_where, refused_where, refused_complete, cause_untouched, run_leads, leads_run, leads_told, not_done, status_in, words_where}
+use Rattle.nb_cli.proofs.Statuses.{IsRefusal, refusal_told, told_answer, told_kept, finished_no_cause, finished_where, refused_where, refused_complete, cause_untouched, begun_leads, run_leads, leads_run, leads_told, not_done, status_in, words_where}
 use Rattle.nb_cli.proofs.Sounding.{stays_sound}
 use Rattle.nb_cli.proofs.Extending.{done_extends, refused_extends}
 use Rattle.nb_cli.proofs.program.nbody.Given.{Over}
@@ -16,7 +16,7 @@ pub returns-in-Ok-clause-untouched : goal.returns-in-Ok-clause-untouched
 returns-in-Ok-clause-untouched g c why told holds = absurd (finished_no_cause (c.in-Ok.ensures.done told) holds)
 
 pub returns-in-Ok-clause-leads : goal.returns-in-Ok-clause-leads
-returns-in-Ok-clause-leads g c = leads_run (run_leads c.run.ensures.run)
+returns-in-Ok-clause-leads g c = leads_run (begun_leads c.in-Ok.ensures.begun)
 
 -- Where the run is refused.
 
@@ -46,19 +46,19 @@ returns-in-Err-clause-done g c done = absurd (not_done c.in-Err.why c.say_why.re
 
 pub returns-in-Err-clause-untouched : goal.returns-in-Err-clause-untouched
 returns-in-Err-clause-untouched g c why told holds =
-    cause_untouched ((leads_told (run_leads c.run.ensures.run) c.say_why.ensures).contents told) holds
+    cause_untouched ((leads_told (run_leads c.in-Err.ensures.run) c.say_why.ensures).contents told) holds
 
 pub returns-in-Err-clause-leads : goal.returns-in-Err-clause-leads
-returns-in-Err-clause-leads g c = leads_told (run_leads c.run.ensures.run) c.say_why.ensures
+returns-in-Err-clause-leads g c = leads_told (run_leads c.in-Err.ensures.run) c.say_why.ensures
 
 -- A folder that is sound stays so.
 
 pub returns-in-Ok-clause-sound : goal.returns-in-Ok-clause-sound
-returns-in-Ok-clause-sound g c at_entry = stays_sound c.law_acknowledged.ensures.line g.H.Host.meaning {files = (g.H.Host.meaning.contents c.args.host.now).file} (leads_run (run_leads c.run.ensures.run)) at_entry
+returns-in-Ok-clause-sound g c at_entry = stays_sound c.law_acknowledged.ensures.line g.H.Host.meaning {files = (g.H.Host.meaning.contents c.args.host.now).file} (leads_run (begun_leads c.in-Ok.ensures.begun)) at_entry
 
 pub returns-in-Err-clause-sound : goal.returns-in-Err-clause-sound
 returns-in-Err-clause-sound g c at_entry =
-    stays_sound c.law_acknowledged.ensures.line g.H.Host.meaning {files = (g.H.Host.meaning.contents c.args.host.now).file} (leads_told (run_leads c.run.ensures.run) c.say_why.ensures) at_entry
+    stays_sound c.law_acknowledged.ensures.line g.H.Host.meaning {files = (g.H.Host.meaning.contents c.args.host.now).file} (leads_told (run_leads c.in-Err.ensures.run) c.say_why.ensures) at_entry
 
 -- It extends what it was.
 
@@ -66,4 +66,4 @@ pub returns-in-Ok-clause-extends : goal.returns-in-Ok-clause-extends
 returns-in-Ok-clause-extends g c job is sound = done_extends g.H.Host.meaning _ job is sound c.in-Ok.ensures.begun
 
 pub returns-in-Err-clause-extends : goal.returns-in-Err-clause-extends
-returns-in-Err-clause-extends g c job is sound = refused_extends g.H.Host.meaning _ job is sound c.run.ensures.run c.say_why.ensures
+returns-in-Err-clause-extends g c job is sound = refused_extends g.H.Host.meaning _ job is (λ same. c.in-Err.ensures.words (ap Err same)) sound c.in-Err.ensures.run c.say_why.ensures

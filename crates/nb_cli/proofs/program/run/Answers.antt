@@ -1,5 +1,5 @@
 use Rattle.std.proofs.Common.{ap, Err}
-use Rattle.nb_cli.proofs.Statuses.{begins_run, begins_or_not, brings_words, brings_none, run_reason, no_words_reason}
+use Rattle.nb_cli.proofs.Statuses.{begins_run, begins_or_not, begins_no_words, begins_no_memory, brings_words, brings_none, run_reason, no_words_reason}
 use Rattle.nb_cli.proofs.Commands.{paced}
 use Rattle.nb_cli.proofs.program.run.Goals as goal
 
@@ -9,11 +9,8 @@ run_job-requires g c = paced _ c.in-Ok.job c.in-Ok.ensures.command
 pub returns-in-Ok-run_job-clause-begun : goal.returns-in-Ok-run_job-clause-begun
 returns-in-Ok-run_job-clause-begun g c = begins_run c.in-Ok.ensures.command c.in-Ok-run_job.ensures.begun
 
-pub returns-in-Ok-run_job-clause-run : goal.returns-in-Ok-run_job-clause-run
-returns-in-Ok-run_job-clause-run g c = begins_or_not c.in-Ok.ensures.command c.run_job.ensures.run
-
 pub returns-in-Err-clause-run : goal.returns-in-Err-clause-run
-returns-in-Err-clause-run g c = begins_or_not c.in-Ok.ensures.command c.run_job.ensures.run
+returns-in-Err-clause-run g c = begins_or_not c.in-Ok.ensures.command c.in-Err.ensures.run
 
 pub returns-in-Err-clause-cause : goal.returns-in-Err-clause-cause
 returns-in-Err-clause-cause g c told = run_reason c.in-Ok.job c.in-Ok.ensures.command (c.in-Err.ensures.cause told)
@@ -22,6 +19,12 @@ pub returns-in-Err-clause-brought : goal.returns-in-Err-clause-brought
 returns-in-Err-clause-brought g c =
     brings_words g.H.Host.meaning _ c.in-Ok.job c.in-Err.refusal c.args.host.now c.run_job.new.host c.in-Ok.ensures.command
     c.in-Err.ensures.brought
+
+pub returns-in-Err-Refused-clause-run : goal.returns-in-Err-Refused-clause-run
+returns-in-Err-Refused-clause-run g c = begins_no_words g.H.Host.meaning _ c.args.host.now
+
+pub returns-in-Err-NoMemory-clause-run : goal.returns-in-Err-NoMemory-clause-run
+returns-in-Err-NoMemory-clause-run g c = begins_no_memory g.H.Host.meaning _ c.args.host.now
 
 pub returns-in-Err-Refused-clause-words : goal.returns-in-Err-Refused-clause-words
 returns-in-Err-Refused-clause-words g c = λ same. c.in-Err-Refused.ensures.refused (ap Err c.in-Err-Refused.field-0-is)

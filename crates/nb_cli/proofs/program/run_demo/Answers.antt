@@ -5,6 +5,7 @@ use Rattle.nb_engine.specs.Refusal.{of_host}
 use Rattle.nb_cli.specs.declared.words.Job.TheVariants as job
 use Rattle.nb_cli.specs.Answer.{IsJobDone}
 use Rattle.nb_cli.proofs.Causes.{IsCause, cause_still, given_by_demo, never_spoilt}
+use Rattle.nb_cli.proofs.Runs.{unsynced_run, begun_run}
 use Rattle.nb_cli.proofs.Sessions.{counts_first, counts_session, counts_whole, syncs_start}
 use Rattle.nb_cli.proofs.program.run_demo.Goals as goal
 
@@ -28,13 +29,22 @@ returns-in_err-demo-clause-given g c =
 
 -- ---- what it leaves at each moment
 
+pub returns-in_err-sync-clause-run : goal.returns-in_err-sync-clause-run
+returns-in_err-sync-clause-run g c =
+    let handed_on : c.from_residual.result ≡ Err (of_host c.in_err-sync.field-0.0) = search rules in
+    rw handed_on (unsynced_run g.H.Host.meaning (job.Demo c.args.seed c.args.count c.args.target c.args.pace) c.in_err-sync.field-0.0 c.in_err-sync.ensures.ran.leads)
+
 pub returns-in_err-demo-clause-run : goal.returns-in_err-demo-clause-run
-returns-in_err-demo-clause-run g c = inr (record {
-  synced = c.sync.new.self;
-  before = c.in_ok-sync.ensures.ran.leads;
-  durable = c.in_ok-sync.ensures.durable;
-  since = leads_more c.in_err-demo.ensures.ran.leads (λ start image step. record { touches = step.leads; err = step.err });
-})
+returns-in_err-demo-clause-run g c =
+    let why = c.in_err-demo.field-0.0 in
+    let handed_on : c.from_residual-in_err-demo.result ≡ Err why = search rules in
+    rw handed_on
+    (begun_run g.H.Host.meaning (job.Demo c.args.seed c.args.count c.args.target c.args.pace) why (record {
+      synced = c.sync.new.self;
+      before = c.in_ok-sync.ensures.ran.leads;
+      durable = c.in_ok-sync.ensures.durable;
+      since = leads_more c.in_err-demo.ensures.ran.leads (λ start image step. record { touches = step.leads; err = step.err });
+    }))
 
 pub returns-clause-begun : goal.returns-clause-begun
 returns-clause-begun g c = record {
@@ -43,9 +53,6 @@ returns-clause-begun g c = record {
   durable = c.in_ok-sync.ensures.durable;
   since = leads_more c.in_ok-demo.ensures.ran.leads (λ start image step. record { touches = step.leads; err = step.err });
 }
-
-pub returns-clause-run : goal.returns-clause-run
-returns-clause-run g c = inr (returns-clause-begun g c)
 
 pub returns-clause-done : goal.returns-clause-done
 returns-clause-done g c tells =

@@ -9,7 +9,7 @@ use Rattle.nb_cli.specs.declared.words.Job.TheVariants as job
 use Rattle.nb_cli.specs.Telling.{HasGone}
 use Rattle.nb_cli.specs.Answer.{IsJobDone, BringsUp}
 use Rattle.nb_cli.proofs.Causes.{IsCause, cause_still, given_by_go}
-use Rattle.nb_cli.proofs.Runs.{said_answer}
+use Rattle.nb_cli.proofs.Runs.{unsynced_run, begun_run, said_answer}
 use Rattle.nb_cli.proofs.Sessions.{session_done, go_touches, go_told, counts_first, counts_session, counts_line, syncs_go}
 use Rattle.nb_cli.proofs.Statuses.{brings_nothing, brings_synced}
 use Rattle.nb_cli.proofs.program.run_go.Goals as goal
@@ -33,31 +33,44 @@ returns-in_err-done-clause-given g c =
 
 -- ---- what it leaves at each moment
 
+pub returns-in_err-sync-clause-run : goal.returns-in_err-sync-clause-run
+returns-in_err-sync-clause-run g c =
+    let handed_on : c.from_residual.result ≡ Err (of_host c.in_err-sync.field-0.0) = search rules in
+    rw handed_on (unsynced_run g.H.Host.meaning (job.Go c.args.target c.args.pace) c.in_err-sync.field-0.0 c.in_err-sync.ensures.ran.leads)
+
 pub returns-in_err-done-clause-run : goal.returns-in_err-done-clause-run
-returns-in_err-done-clause-run g c = inr (record {
-  synced = c.sync.new.self;
-  before = c.in_ok-sync.ensures.ran.leads;
-  durable = c.in_ok-sync.ensures.durable;
-  since = go_touches g.H.Host.meaning (g.H.Host.meaning.contents c.args.host.now).file c.args.target c.args.pace c.in_err-done.ensures.ran.leads;
-})
+returns-in_err-done-clause-run g c =
+    let why = c.in_err-done.field-0.0 in
+    let handed_on : c.from_residual-in_err-done.result ≡ Err why = search rules in
+    rw handed_on
+    (begun_run g.H.Host.meaning (job.Go c.args.target c.args.pace) why (record {
+      synced = c.sync.new.self;
+      before = c.in_ok-sync.ensures.ran.leads;
+      durable = c.in_ok-sync.ensures.durable;
+      since = go_touches g.H.Host.meaning (g.H.Host.meaning.contents c.args.host.now).file c.args.target c.args.pace c.in_err-done.ensures.ran.leads;
+    }))
 
 pub returns-in_err-say-clause-run : goal.returns-in_err-say-clause-run
-returns-in_err-say-clause-run g c = inr (record {
-  synced = c.sync.new.self;
-  before = c.in_ok-sync.ensures.ran.leads;
-  durable = c.in_ok-sync.ensures.durable;
-  since = go_told g.H.Host.meaning (g.H.Host.meaning.contents c.args.host.now).file c.args.target c.args.pace c.bytes.result.now
-      c.in_ok-sync.ensures.durable c.in_ok-done.ensures.ran.leads c.in_ok-done.ensures.durable
-      (λ tells. record {
-        done = c.in_ok-done.done;
-        fits = record { time = omega arith; ticks = omega arith; gone = omega arith };
-        there = c.in_ok-done.ensures.there;
-        could = c.in_ok-done.ensures.ready tells;
-        led = c.in_ok-done.ensures.done tells;
-        line_is = c.bytes.ensures.value ∙ c.done_line-line.ensures;
-      })
-      c.in_err-say.ensures.spoke.leads;
-})
+returns-in_err-say-clause-run g c =
+    let why = of_host c.in_err-say.field-0.0 in
+    let handed_on : c.from_residual-in_err-say.result ≡ Err why = search rules in
+    rw handed_on
+    (begun_run g.H.Host.meaning (job.Go c.args.target c.args.pace) why (record {
+      synced = c.sync.new.self;
+      before = c.in_ok-sync.ensures.ran.leads;
+      durable = c.in_ok-sync.ensures.durable;
+      since = go_told g.H.Host.meaning (g.H.Host.meaning.contents c.args.host.now).file c.args.target c.args.pace c.bytes.result.now
+          c.in_ok-sync.ensures.durable c.in_ok-done.ensures.ran.leads c.in_ok-done.ensures.durable
+          (λ tells. record {
+            done = c.in_ok-done.done;
+            fits = record { time = omega arith; ticks = omega arith; gone = omega arith };
+            there = c.in_ok-done.ensures.there;
+            could = c.in_ok-done.ensures.ready tells;
+            led = c.in_ok-done.ensures.done tells;
+            line_is = c.bytes.ensures.value ∙ c.done_line-line.ensures;
+          })
+          c.in_err-say.ensures.spoke.leads;
+    }))
 
 pub returns-clause-begun : goal.returns-clause-begun
 returns-clause-begun g c = record {
@@ -76,9 +89,6 @@ returns-clause-begun g c = record {
       })
       c.in_ok-say.ensures.spoke.leads;
 }
-
-pub returns-clause-run : goal.returns-clause-run
-returns-clause-run g c = inr (returns-clause-begun g c)
 
 pub returns-clause-done : goal.returns-clause-done
 returns-clause-done g c tells =

@@ -9,7 +9,7 @@ use Rattle.nb_cli.specs.Answer.{IsJobDone}
 use Rattle.nb_cli.specs.Make.{make_syncs}
 use Rattle.nb_cli.proofs.Causes.{IsCause, cause_still, never_spoilt, given_by_make}
 use Rattle.nb_cli.proofs.MakeLines.{leads_files, leads_line, made_told, made_synced}
-use Rattle.nb_cli.proofs.Runs.{counts_unsynced, counts_refused, counts_said, said_answer}
+use Rattle.nb_cli.proofs.Runs.{unsynced_run, begun_run, counts_unsynced, counts_refused, counts_said, said_answer}
 use Rattle.nb_cli.proofs.program.run_make.Goals as goal
 
 -- ---- why it is refused
@@ -31,22 +31,35 @@ returns-in_err-make-clause-given g c =
 
 -- ---- what it leaves at each moment
 
+pub returns-in_err-sync-clause-run : goal.returns-in_err-sync-clause-run
+returns-in_err-sync-clause-run g c =
+    let handed_on : c.from_residual.result ≡ Err (of_host c.in_err-sync.field-0.0) = search rules in
+    rw handed_on (unsynced_run g.H.Host.meaning (job.Make c.args.seed c.args.count) c.in_err-sync.field-0.0 c.in_err-sync.ensures.ran.leads)
+
 pub returns-in_err-make-clause-run : goal.returns-in_err-make-clause-run
-returns-in_err-make-clause-run g c = inr (record {
-  synced = c.sync.new.self;
-  before = c.in_ok-sync.ensures.ran.leads;
-  durable = c.in_ok-sync.ensures.durable;
-  since = leads_files c.in_err-make.ensures.ran.leads;
-})
+returns-in_err-make-clause-run g c =
+    let why = c.in_err-make.field-0.0 in
+    let handed_on : c.from_residual-in_err-make.result ≡ Err why = search rules in
+    rw handed_on
+    (begun_run g.H.Host.meaning (job.Make c.args.seed c.args.count) why (record {
+      synced = c.sync.new.self;
+      before = c.in_ok-sync.ensures.ran.leads;
+      durable = c.in_ok-sync.ensures.durable;
+      since = leads_files c.in_err-make.ensures.ran.leads;
+    }))
 
 pub returns-in_err-say-clause-run : goal.returns-in_err-say-clause-run
-returns-in_err-say-clause-run g c = inr (record {
-  synced = c.sync.new.self;
-  before = c.in_ok-sync.ensures.ran.leads;
-  durable = c.in_ok-sync.ensures.durable;
-  since = leads_line c.bytes.result.now (c.bytes.ensures.value ∙ c.made_line-line.ensures) c.in_ok-sync.ensures.durable
-      c.in_ok-make.ensures.ran.leads c.in_ok-make.ensures.durable c.in_ok-make.ensures.done c.in_err-say.ensures.spoke.leads;
-})
+returns-in_err-say-clause-run g c =
+    let why = of_host c.in_err-say.field-0.0 in
+    let handed_on : c.from_residual-in_err-say.result ≡ Err why = search rules in
+    rw handed_on
+    (begun_run g.H.Host.meaning (job.Make c.args.seed c.args.count) why (record {
+      synced = c.sync.new.self;
+      before = c.in_ok-sync.ensures.ran.leads;
+      durable = c.in_ok-sync.ensures.durable;
+      since = leads_line c.bytes.result.now (c.bytes.ensures.value ∙ c.made_line-line.ensures) c.in_ok-sync.ensures.durable
+          c.in_ok-make.ensures.ran.leads c.in_ok-make.ensures.durable c.in_ok-make.ensures.done c.in_err-say.ensures.spoke.leads;
+    }))
 
 pub returns-clause-begun : goal.returns-clause-begun
 returns-clause-begun g c = record {
@@ -56,9 +69,6 @@ returns-clause-begun g c = record {
   since = leads_line c.bytes.result.now (c.bytes.ensures.value ∙ c.made_line-line.ensures) c.in_ok-sync.ensures.durable
       c.in_ok-make.ensures.ran.leads c.in_ok-make.ensures.durable c.in_ok-make.ensures.done c.in_ok-say.ensures.spoke.leads;
 }
-
-pub returns-clause-run : goal.returns-clause-run
-returns-clause-run g c = inr (returns-clause-begun g c)
 
 pub returns-clause-done : goal.returns-clause-done
 returns-clause-done g c tells =

@@ -4,7 +4,7 @@ use Rattle.nb_engine.specs.Refusal.{of_host}
 use Rattle.nb_cli.specs.declared.words.Job.TheVariants as job
 use Rattle.nb_cli.specs.Answer.{once_syncs}
 use Rattle.nb_cli.proofs.Causes.{IsCause, cause_still, never_spoilt}
-use Rattle.nb_cli.proofs.Runs.{to_say, leads_synced, leads_file, leads_from, leads_line, counts_unsynced, counts_refused, counts_said, said_answer}
+use Rattle.nb_cli.proofs.Runs.{unsynced_run, begun_run, to_say, leads_synced, leads_file, leads_from, leads_line, counts_unsynced, counts_refused, counts_said, said_answer}
 use Rattle.nb_cli.proofs.program.run_once.Goals as goal
 
 pub returns-in_err-done-clause-cause : goal.returns-in_err-done-clause-cause
@@ -18,26 +18,39 @@ returns-in_err-done-clause-cause g c =
 
 -- What it leaves at each moment.
 
+pub returns-in_err-sync-clause-run : goal.returns-in_err-sync-clause-run
+returns-in_err-sync-clause-run g c =
+    let handed_on : c.from_residual.result ≡ Err (of_host c.in_err-sync.field-0.0) = search rules in
+    rw handed_on (unsynced_run g.H.Host.meaning (job.Once c.args.target) c.in_err-sync.field-0.0 c.in_err-sync.ensures.ran.leads)
+
 pub returns-in_err-done-clause-run : goal.returns-in_err-done-clause-run
-returns-in_err-done-clause-run g c = inr (record {
-  synced = c.sync.new.self;
-  before = c.in_ok-sync.ensures.ran.leads;
-  durable = c.in_ok-sync.ensures.durable;
-  since = leads_file (leads_from (stays_contents c.in_ok-sync.ensures.ran.leads) c.in_err-done.ensures.ran.leads);
-})
+returns-in_err-done-clause-run g c =
+    let why = c.in_err-done.field-0.0 in
+    let handed_on : c.from_residual-in_err-done.result ≡ Err why = search rules in
+    rw handed_on
+    (begun_run g.H.Host.meaning (job.Once c.args.target) why (record {
+      synced = c.sync.new.self;
+      before = c.in_ok-sync.ensures.ran.leads;
+      durable = c.in_ok-sync.ensures.durable;
+      since = leads_file (leads_from (stays_contents c.in_ok-sync.ensures.ran.leads) c.in_err-done.ensures.ran.leads);
+    }))
 
 pub returns-in_err-say-clause-run : goal.returns-in_err-say-clause-run
-returns-in_err-say-clause-run g c = inr (record {
-  synced = c.sync.new.self;
-  before = c.in_ok-sync.ensures.ran.leads;
-  durable = c.in_ok-sync.ensures.durable;
-  since = leads_line c.bytes.result.now
-      (leads_from (stays_contents c.in_ok-sync.ensures.ran.leads) c.in_ok-done.ensures.ran.leads)
-      c.in_ok-done.ensures.durable
-      (λ tells. to_say c.bytes.result.now (stays_contents c.in_ok-sync.ensures.ran.leads) (c.in_ok-done.ensures.done tells)
-      (c.bytes.ensures.value ∙ c.once_line-line.ensures))
-      c.in_err-say.ensures.spoke.leads;
-})
+returns-in_err-say-clause-run g c =
+    let why = of_host c.in_err-say.field-0.0 in
+    let handed_on : c.from_residual-in_err-say.result ≡ Err why = search rules in
+    rw handed_on
+    (begun_run g.H.Host.meaning (job.Once c.args.target) why (record {
+      synced = c.sync.new.self;
+      before = c.in_ok-sync.ensures.ran.leads;
+      durable = c.in_ok-sync.ensures.durable;
+      since = leads_line c.bytes.result.now
+          (leads_from (stays_contents c.in_ok-sync.ensures.ran.leads) c.in_ok-done.ensures.ran.leads)
+          c.in_ok-done.ensures.durable
+          (λ tells. to_say c.bytes.result.now (stays_contents c.in_ok-sync.ensures.ran.leads) (c.in_ok-done.ensures.done tells)
+          (c.bytes.ensures.value ∙ c.once_line-line.ensures))
+          c.in_err-say.ensures.spoke.leads;
+    }))
 
 pub returns-clause-begun : goal.returns-clause-begun
 returns-clause-begun g c = record {
@@ -51,9 +64,6 @@ returns-clause-begun g c = record {
       (c.bytes.ensures.value ∙ c.once_line-line.ensures))
       c.in_ok-say.ensures.spoke.leads;
 }
-
-pub returns-clause-run : goal.returns-clause-run
-returns-clause-run g c = inr (returns-clause-begun g c)
 
 -- What it owes to the counts.
 

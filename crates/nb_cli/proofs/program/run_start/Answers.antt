@@ -9,7 +9,7 @@ use Rattle.nb_cli.specs.declared.words.Job.TheVariants as job
 use Rattle.nb_cli.specs.Telling.{HasStarted}
 use Rattle.nb_cli.specs.Answer.{IsJobDone}
 use Rattle.nb_cli.proofs.Causes.{IsCause, cause_still, given_by_start, never_spoilt}
-use Rattle.nb_cli.proofs.Runs.{said_answer}
+use Rattle.nb_cli.proofs.Runs.{unsynced_run, begun_run, said_answer}
 use Rattle.nb_cli.proofs.Sessions.{started_told, session_done, start_touches, start_told, counts_first, counts_session, counts_line, syncs_start}
 use Rattle.nb_cli.proofs.program.run_start.Goals as goal
 
@@ -32,29 +32,42 @@ returns-in_err-begun-clause-given g c =
 
 -- ---- what it leaves at each moment
 
+pub returns-in_err-sync-clause-run : goal.returns-in_err-sync-clause-run
+returns-in_err-sync-clause-run g c =
+    let handed_on : c.from_residual.result ≡ Err (of_host c.in_err-sync.field-0.0) = search rules in
+    rw handed_on (unsynced_run g.H.Host.meaning (job.Start c.args.pages) c.in_err-sync.field-0.0 c.in_err-sync.ensures.ran.leads)
+
 pub returns-in_err-begun-clause-run : goal.returns-in_err-begun-clause-run
-returns-in_err-begun-clause-run g c = inr (record {
-  synced = c.sync.new.self;
-  before = c.in_ok-sync.ensures.ran.leads;
-  durable = c.in_ok-sync.ensures.durable;
-  since = start_touches g.H.Host.meaning (g.H.Host.meaning.contents c.args.host.now).file c.args.pages c.in_err-begun.ensures.ran.leads;
-})
+returns-in_err-begun-clause-run g c =
+    let why = c.in_err-begun.field-0.0 in
+    let handed_on : c.from_residual-in_err-begun.result ≡ Err why = search rules in
+    rw handed_on
+    (begun_run g.H.Host.meaning (job.Start c.args.pages) why (record {
+      synced = c.sync.new.self;
+      before = c.in_ok-sync.ensures.ran.leads;
+      durable = c.in_ok-sync.ensures.durable;
+      since = start_touches g.H.Host.meaning (g.H.Host.meaning.contents c.args.host.now).file c.args.pages c.in_err-begun.ensures.ran.leads;
+    }))
 
 pub returns-in_err-say-clause-run : goal.returns-in_err-say-clause-run
-returns-in_err-say-clause-run g c = inr (record {
-  synced = c.sync.new.self;
-  before = c.in_ok-sync.ensures.ran.leads;
-  durable = c.in_ok-sync.ensures.durable;
-  since = start_told g.H.Host.meaning (g.H.Host.meaning.contents c.args.host.now).file c.args.pages c.bytes.result.now
-      c.in_ok-sync.ensures.durable c.in_ok-begun.ensures.ran.leads c.in_ok-begun.ensures.durable
-      (λ tells. record {
-        start = (c.in_ok-begun.ensures.begun tells).0;
-        ready = (c.in_ok-begun.ensures.begun tells).1;
-        begun = (c.in_ok-begun.ensures.begun tells).3;
-        line_is = started_told c.bytes.result.now (c.bytes.ensures.value ∙ c.started_line-line.ensures) (c.in_ok-begun.ensures.begun tells).2;
-      })
-      c.in_err-say.ensures.spoke.leads;
-})
+returns-in_err-say-clause-run g c =
+    let why = of_host c.in_err-say.field-0.0 in
+    let handed_on : c.from_residual-in_err-say.result ≡ Err why = search rules in
+    rw handed_on
+    (begun_run g.H.Host.meaning (job.Start c.args.pages) why (record {
+      synced = c.sync.new.self;
+      before = c.in_ok-sync.ensures.ran.leads;
+      durable = c.in_ok-sync.ensures.durable;
+      since = start_told g.H.Host.meaning (g.H.Host.meaning.contents c.args.host.now).file c.args.pages c.bytes.result.now
+          c.in_ok-sync.ensures.durable c.in_ok-begun.ensures.ran.leads c.in_ok-begun.ensures.durable
+          (λ tells. record {
+            start = (c.in_ok-begun.ensures.begun tells).0;
+            ready = (c.in_ok-begun.ensures.begun tells).1;
+            begun = (c.in_ok-begun.ensures.begun tells).3;
+            line_is = started_told c.bytes.result.now (c.bytes.ensures.value ∙ c.started_line-line.ensures) (c.in_ok-begun.ensures.begun tells).2;
+          })
+          c.in_err-say.ensures.spoke.leads;
+    }))
 
 pub returns-clause-begun : goal.returns-clause-begun
 returns-clause-begun g c = record {
@@ -71,9 +84,6 @@ returns-clause-begun g c = record {
       })
       c.in_ok-say.ensures.spoke.leads;
 }
-
-pub returns-clause-run : goal.returns-clause-run
-returns-clause-run g c = inr (returns-clause-begun g c)
 
 pub returns-clause-done : goal.returns-clause-done
 returns-clause-done g c tells =

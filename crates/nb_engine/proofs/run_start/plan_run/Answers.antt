@@ -5,7 +5,7 @@ use Rattle.nb_format.specs.Reader.{time_of}
 use Rattle.nb_engine.specs.declared.init_file.Census.{Census}
 use Rattle.nb_engine.specs.Refusal.{NeedsNoCause, of_snapshot}
 use Rattle.nb_engine.specs.Start.{Start, IsStartRefused}
-use Rattle.nb_engine.proofs.Beginnings.{reads_then, reads_as, snapshot_is_fault, header_now, refused_then, params_then, start_then, no_params_then, refused_by_snapshot, too_heavy, light_enough}
+use Rattle.nb_engine.proofs.Beginnings.{reads_then, reads_as, snapshot_is_fault, header_now, refused_then, params_then, start_then, no_params_then, parameters_of_start, refused_by_snapshot, too_heavy, light_enough}
 use Rattle.nb_engine.proofs.run_start.plan_run.Goals as goal
 
 -- Where the parameters are refused.
@@ -19,6 +19,12 @@ returns-in_err-params-clause-cause g c =
     no_params_then (stays_contents c.in_ok-find_none.ensures.ran.leads) (c.in_ok-find_none.ensures.fresh told)
     (c.in_err-params.ensures.cause told) in
     rw handed_on cause
+
+pub returns-in_err-params-clause-refusals : goal.returns-in_err-params-clause-refusals
+returns-in_err-params-clause-refusals g c =
+    let why = c.in_err-params.field-0.0 in
+    let handed_on : c.from_residual-in_err-params.result ≡ Err why = search rules in
+    rw handed_on (parameters_of_start why c.in_err-params.ensures.refusals)
 
 -- Where the snapshot is.
 
