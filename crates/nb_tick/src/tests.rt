@@ -1,6 +1,6 @@
 //! Ticks with known answers.
 
-ghost use Rattle.std.specs.Prelude.{◌≡◌, ◌^◌, ◌≤◌, [], OnOk};
+ghost use Rattle.std.specs.Prelude.{◌≡◌, ◌^◌, ◌<◌, ◌≤◌, [], OnOk};
 ghost use Rattle.nb_model.specs.Valid.{AreInRange};
 ghost use Rattle.nb_cache.specs.InStep.{IsInStep};
 
@@ -19,6 +19,9 @@ use std::test::Fail;
 const MIDDLE: u64 = HALF_BOX;
 
 const NO_KICK: V3 = V3 { x: 0, y: 0, z: 0 };
+
+/// How many bodies there are in the crowd, which has twelve pages.
+const CROWD: u64 = 512;
 
 fn params(edge: Edge) -> Params
     ensures { AreInRange result }
@@ -59,7 +62,7 @@ fn one_of_pair(id: u64, mass: u32, x: u64, v: i64, kick: i64) -> KickedBody {
 
 /// Adds a body to the slot of an even number of ticks.
 fn put<H: Host>(host: &mut H, cache: &mut Cache, index: u64, body: &Body) -> Result<(), Fail>
-    requires index { index ≤ 1 }
+    requires index { index < 2 ^ 24 }
     requires in_step { IsInStep H.meaning cache.old host.old }
     ensures { IsInStep H.meaning cache.new host.new }
 {
@@ -80,7 +83,7 @@ fn pair_in<H: Host>(host: &mut H, cache: &mut Cache, slot: Slot) -> Result<[Kick
     Ok([first, second])
 }
 
-/// A tick with one walk at a time.
+/// A tick with so many walks at a time.
 fn tick_once<H: Host>(
     alloc: Global,
     host: &mut H,
@@ -90,15 +93,18 @@ fn tick_once<H: Host>(
     count: u64,
     way: Way,
     known: bool,
+    walks: usize,
 ) -> Result<u64, Fail>
     requires params { AreInRange params.now }
-    requires count { count ≤ 2 }
+    requires count { count ≤ 512 }
+    requires some_walks { 1 ≤ walks }
+    requires few_walks { walks ≤ 1024 }
     requires unwritten { cache.old.unwritten ≡ [] }
     requires in_step { IsInStep H.meaning cache.old host.old }
     ensures unwritten { OnOk result (cache.new.unwritten ≡ []) }
     ensures in_step { IsInStep H.meaning cache.new host.new }
 {
-    let mut pool = Pool::new(alloc, 1)?;
+    let mut pool = Pool::new(alloc, walks)?;
     let mut sorter = Sorter::new(alloc);
     let mut builder = Builder::new(alloc);
     Ok(tick(
@@ -149,6 +155,7 @@ fn there_and_back(
         2,
         Way::Forward,
         false,
+        1,
     )?;
     let odd = pair_in(&mut host, &mut cache, Slot::Odd)?;
     cache.flush(&mut host)?;
@@ -161,6 +168,7 @@ fn there_and_back(
         2,
         Way::Back,
         known,
+        1,
     )?;
     let even = pair_in(&mut host, &mut cache, Slot::Even)?;
     Ok((on, odd, back, even))
@@ -187,6 +195,7 @@ fn across_the_border(alloc: Global, edge: Edge) -> Result<(u64, Body), Fail> {
         1,
         Way::Forward,
         false,
+        1,
     )?;
     let found = kicked_at(&mut host, &mut cache, Slot::Odd.file(), 0)?;
     Ok((out, found.body))
@@ -200,6 +209,59 @@ fn at_the_border(x: u64, out: bool) -> Body {
         at: At { x, y: 0, z: 0 },
         v: along(1),
     }
+}
+
+/// Adds bodies at one place, at rest, to the slot of an even number of ticks. None pulls another, so the half
+/// kicks there are theirs.
+fn put_crowd<H: Host>(host: &mut H, cache: &mut Cache) -> Result<(), Fail>
+    requires { IsInStep H.meaning cache.old host.old }
+    ensures { IsInStep H.meaning cache.new host.new }
+{
+    for index in 0..CROWD {
+        let body = Body {
+            id: index,
+            mass: 1,
+            out: false,
+            at: At { x: 0, y: 0, z: 0 },
+            v: NO_KICK,
+        };
+        put(host, cache, index, &body)?;
+    }
+    Ok(())
+}
+
+/// A tick of the crowd with four pages and 64 walks: the host then, and how often it was read in the tick.
+fn crowd_ticked(alloc: Global, known: bool) -> Result<(MemoryHost, u64), Fail> {
+    let mut host = MemoryHost::new(alloc);
+    let mut cache = Cache::new(alloc, 4)?;
+    let params = params(Edge::Open);
+    put_crowd(&mut host, &mut cache)?;
+    cache.flush(&mut host)?;
+    let before = host.reads();
+    tick_once(
+        alloc,
+        &mut host,
+        &mut cache,
+        &params,
+        Slot::Even,
+        CROWD,
+        Way::Forward,
+        known,
+        64,
+    )?;
+    let reads = host.reads().wrapping_sub(before);
+    Ok((host, reads))
+}
+
+#[test]
+fn a_tick_with_known_kicks_reads_less(rt: HostRuntime) -> Result<(), Fail> {
+    let (found, many) = crowd_ticked(rt.alloc(), false)?;
+    let (known, few) = crowd_ticked(rt.alloc(), true)?;
+    assert!(rt; few < many);
+    let slot = Slot::Odd.file();
+    assert_eq!(rt; known.bytes(slot).len(), 12 * 4096);
+    assert_eq!(rt; known.bytes(slot), found.bytes(slot));
+    Ok(())
 }
 
 #[test]

@@ -29,6 +29,10 @@ static EMPTY: [u8; 32] = [
 const TWO: &[u8] =
     b"grav = 576460752303423\ntheta_num = 1\ntheta_den = 2\nsoft = 65536\nleaf = 8\nevery = 10\n";
 
+/// The parameters of bodies at one place.
+const AT_ONE_PLACE: &[u8] =
+    b"grav = 1000000000\ntheta_num = 1\ntheta_den = 2\nsoft = 1\nleaf = 8\nevery = 100\n";
+
 /// The two bodies of seed 1: id and mass, coordinates, velocities.
 static TWO_OF_1: [[i64; 8]; 2] = [
     [
@@ -137,7 +141,7 @@ fn none_made(rt: HostRuntime) -> Result<(), Fail> {
         &rt,
         &mut host,
         alloc,
-        &["make", "6", "7"],
+        &["demo", "5", "0", "1"],
         9,
         b"made bodies 0\n",
         there,
@@ -185,5 +189,33 @@ fn a_crowd_led(rt: HostRuntime) -> Result<(), Fail> {
     let last = small.bytes(AFTER_3);
     assert_eq!(rt; last.len(), 128_032);
     assert_eq!(rt; last, large.bytes(AFTER_3));
+    Ok(())
+}
+
+/// How often a tick reads its files, of 512 bodies at one place and at rest, by so many pages and walks.
+fn reads_of(rt: &impl Abort, alloc: Global, pages: &str, walks: &str) -> Result<u64, Fail> {
+    let mut init = Vec::from_slice(alloc, b"FNBSNAP1")?;
+    spell(&mut init, &[512, 0, 0])?;
+    for id in 0i64..512 {
+        spell(&mut init, &[id, 1, 0, 0, 0, 0, 0, 0])?;
+    }
+    let mut host = MemoryHost::new(alloc);
+    host.with_file(PARAMS, AT_ONE_PLACE)?;
+    host.with_file(INIT, &init)?;
+    assert_eq!(rt; nbody(alloc, &["start"], &mut host), 0);
+    let before = host.reads();
+    let words = ["go", "1", "--pages", pages, "--walks", walks];
+    assert_eq!(rt; nbody(alloc, &words, &mut host), 0);
+    Ok(host.reads().wrapping_sub(before))
+}
+
+#[test]
+fn walks_share_pages(rt: HostRuntime) -> Result<(), Fail> {
+    // Each walk meets all twelve pages of bodies.
+    let one_by_one = reads_of(&rt, rt.alloc(), "4", "1")?;
+    let together = reads_of(&rt, rt.alloc(), "4", "64")?;
+    let resident = reads_of(&rt, rt.alloc(), "256", "64")?;
+    assert!(rt; together <= one_by_one / 8);
+    assert!(rt; resident < together);
     Ok(())
 }

@@ -43,7 +43,7 @@ static LEGS: [(u64, u64, u64); 5] = [
 ];
 
 /// How many pages and walks.
-static PACES: [(&str, &str); 2] = [("4", "1"), ("16", "8")];
+static PACES: [(&str, &str); 2] = [("4", "1"), ("64", "7")];
 
 static ANGLES: [&str; 8] = [
     "theta_num = 0\ntheta_den = 1",
