@@ -28,7 +28,7 @@ use Rattle.nb_cli.specs.Once.{once_file, ticks_to as ticks_from, list_at, IsRead
 use Rattle.nb_cli.specs.Done.{TellsOf, BecomesAny, MayWrite}
 use Rattle.nb_cli.specs.Show.{folder_text, show_text}
 use Rattle.nb_engine.specs.Steps.{SaidFrontOf}
-use Rattle.nb_cli.specs.Answer.{IsPartlyDone, JobTouches, JobBegins, JobBeginsOrNot, CountsRun, SyncsRun}
+use Rattle.nb_cli.specs.Answer.{IsPartlyDone, JobTouches, JobBegins, JobBeginsOrNot, exactly, CountsRun, SyncsRun}
 
 pub Out≢Err : ◌≡◌ {A = Channel} channels.Err channels.Out → ⊥
 Out≢Err same = cc
@@ -175,12 +175,12 @@ said_answer (Err error) = Err (of_host error)
 
 -- a device fault or want of memory, behind so many syncs at most
 pub syncs_free : (syncs : ℕ) (why : Refusal) (before behind : ℕ) → NeedsNoCause why → behind ≤ before + syncs
-    → SyncsRun (Some syncs) (Err why) before behind
-syncs_free syncs why before behind (inl is) few = subst (λ w. SyncsRun (Some syncs) (Err w) before behind) (sym is) few
-syncs_free syncs why before behind (inr is) few = subst (λ w. SyncsRun (Some syncs) (Err w) before behind) (sym is) few
+    → SyncsRun (exactly syncs) (Err why) before behind
+syncs_free syncs why before behind (inl is) few = subst (λ w. SyncsRun (exactly syncs) (Err w) before behind) (sym is) few
+syncs_free syncs why before behind (inr is) few = subst (λ w. SyncsRun (exactly syncs) (Err w) before behind) (sym is) few
 
 -- a refusal by a cause, behind one sync
-pub syncs_once : (more : ℕ) (why : Refusal) (before behind : ℕ) → behind ≡ before + 1 → SyncsRun (Some (more + 1)) (Err why) before behind
+pub syncs_once : (more : ℕ) (why : Refusal) (before behind : ℕ) → behind ≡ before + 1 → SyncsRun (exactly (more + 1)) (Err why) before behind
 syncs_once more (refusal.Params _) before behind one = one
 syncs_once more (refusal.Snapshot _) before behind one = one
 syncs_once more (refusal.TooHeavy _ _) before behind one = one
@@ -241,7 +241,7 @@ free_or_not (refusal.Damaged p) = inr never where
 -- the first sync failed
 pub counts_unsynced : {H T : Type 0} {m : HostModel H} {by : Image → Image → Type 0} {old new : H}
     {result : Result T HostError} {error : HostError} (more : ℕ) → RanSyncing m 1 Fault by old new result → result ≡ Err error
-    → CountsRun m (Some (more + 1)) old new (Err (of_host error))
+    → CountsRun m (exactly (more + 1)) old new (Err (of_host error))
 counts_unsynced {old = old} {new = new} {error = error} more ran is = record {
   count = ran.count;
   rose = λ err. ran.rose (is ∙ ap Err (by_device error err));
@@ -268,7 +268,7 @@ pub counts_refused : {H S T : Type 0} {m : HostModel H} {one two : Image → Ima
     {first : Result S HostError} {result : Result T Refusal} {why : Refusal} (more : ℕ) → IsOk first
     → RanSyncing m 1 Fault one old middle first → RanSyncing m more refusal.Device two middle new result
     → result ≡ Err why → ((NeedsNoCause why → ⊥) → m.tally new ≡ m.tally middle)
-    → CountsRun m (Some (more + 1)) old new (Err why)
+    → CountsRun m (exactly (more + 1)) old new (Err why)
 counts_refused {m = m} {old = old} {middle = middle} {new = new} {why = why} more ok before after is unsynced =
     let same = before.spared (ok_is_no_error ok) in
     record {
@@ -290,7 +290,7 @@ counts_refused {m = m} {old = old} {middle = middle} {new = new} {why = why} mor
 pub counts_said : {H T E : Type 0} {m : HostModel H} {fault : E} {by : Image → Image → Type 0} {old middle new : H}
     {result : Result T E} {line : List ℕ} {answer : Result (Unit {0}) HostError} (syncs : ℕ)
     → RanSyncing m syncs fault by old middle result → IsOk result → Spoke m channels.Out line middle new answer
-    → CountsRun m (Some syncs) old new (said_answer answer)
+    → CountsRun m (exactly syncs) old new (said_answer answer)
 counts_said {m = m} {new = new} {answer = answer} syncs ran ok spoke =
     let spared = ran.spared (ok_is_no_error ok) in
     record {
@@ -314,7 +314,7 @@ counts_said {m = m} {new = new} {answer = answer} syncs ran ok spoke =
       went (Err NoMemory) fine = absurd (search rules)
 
       counted : (answer : Result (Unit {0}) HostError) (before behind : ℕ) → behind ≡ before + syncs
-          → SyncsRun (Some syncs) (said_answer answer) before behind
+          → SyncsRun (exactly syncs) (said_answer answer) before behind
       counted (Ok tt) before behind all = all
       counted (Err Fault) before behind all = omega (arith, all)
       counted (Err NoMemory) before behind all = omega (arith, all)

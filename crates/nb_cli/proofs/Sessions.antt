@@ -1,5 +1,5 @@
 -- A run of `start`, `go` or `resume`, with its line: where it leads, and what it owes to the counts.
-use Rattle.std.proofs.Common.{◌≡◌, ◌≤◌, ◌+◌, ◌⊎◌, inl, inr, ℕ, Bool, List, length, refl, ap, sym, subst, ◌∙◌, arith, IsTrue, IsOk, Result, Ok, Err, None, rules}
+use Rattle.std.proofs.Common.{◌≡◌, ◌≤◌, ◌+◌, ◌⊎◌, inl, inr, ℕ, Bool, List, length, refl, ap, sym, subst, ◌∙◌, arith, IsTrue, IsOk, Result, Ok, Err, rules}
 use Rattle.std.specs.Prelude.{⊤}
 use Rattle.nb_host.specs.declared.host.Channel.{Channel}
 use Rattle.nb_host.specs.declared.host.Channel.TheVariants as channels
@@ -24,7 +24,7 @@ use Rattle.nb_journal.specs.Form.{Log, IsJournal, progress_of}
 use Rattle.nb_journal.specs.Offsets.{journal_file}
 use Rattle.nb_cli.specs.declared.words.Job.TheVariants as job
 use Rattle.nb_cli.specs.Telling.{HasStarted, HasGone, HasResumed, IsDoneThenTold, LeadsThenTells}
-use Rattle.nb_cli.specs.Answer.{JobTouches, SyncsRun, CountsRun}
+use Rattle.nb_cli.specs.Answer.{JobTouches, Syncs, of_begin, of_run, SyncsRun, CountsRun}
 use Rattle.nb_cli.proofs.Causes.{not_shown}
 use Rattle.nb_cli.proofs.Runs.{Out≢Err, said_answer, free_or_not}
 
@@ -172,8 +172,8 @@ SyncsBehind (refusal.TickLimit _) before behind = before ≤ behind
 SyncsBehind (refusal.Damaged page) before behind = page.file ≡ journal_file → behind ≡ before
 SyncsBehind _ before behind = behind ≡ before
 
-syncs_behind : (why : Refusal) (before middle behind : ℕ) → middle ≡ before + 1 → SyncsBehind why middle behind
-    → SyncsRun None (Err why) before behind
+pub syncs_behind : (why : Refusal) (before middle behind : ℕ) → middle ≡ before + 1 → SyncsBehind why middle behind
+    → SyncsRun of_run (Err why) before behind
 syncs_behind (refusal.Params _) before middle behind one same = same ∙ one
 syncs_behind (refusal.Snapshot _) before middle behind one same = same ∙ one
 syncs_behind (refusal.TooHeavy _ _) before middle behind one same = same ∙ one
@@ -186,6 +186,25 @@ syncs_behind (refusal.TooMany _) before middle behind one same = same ∙ one
 syncs_behind refusal.Device before middle behind one free = tt
 syncs_behind (refusal.Damaged _) before middle behind one same = λ journal. same journal ∙ one
 syncs_behind refusal.NoMemory before middle behind one free = tt
+
+-- `start` and `demo` sync before no refusal by a cause
+syncs_begin : (why : Refusal) (before behind : ℕ) → behind ≡ before + 1 → SyncsRun of_begin (Err why) before behind
+syncs_begin (refusal.Params _) before behind one = one
+syncs_begin (refusal.Snapshot _) before behind one = one
+syncs_begin (refusal.TooHeavy _ _) before behind one = one
+syncs_begin refusal.NotStarted before behind one = one
+syncs_begin refusal.Started before behind one = one
+syncs_begin (refusal.LegOpen _ _) before behind one = one
+syncs_begin (refusal.TickLimit _) before behind one = one
+syncs_begin refusal.InitThere before behind one = one
+syncs_begin (refusal.TooMany _) before behind one = one
+syncs_begin refusal.Device before behind one = tt
+syncs_begin (refusal.Damaged _) before behind one = one
+syncs_begin refusal.NoMemory before behind one = tt
+
+syncs_free_begin : (why : Refusal) (before behind : ℕ) → NeedsNoCause why → SyncsRun of_begin (Err why) before behind
+syncs_free_begin why before behind (inl is) = subst (λ w. SyncsRun of_begin (Err w) before behind) (sym is) tt
+syncs_free_begin why before behind (inr is) = subst (λ w. SyncsRun of_begin (Err w) before behind) (sym is) tt
 
 -- no sync was made
 syncs_none : (why : Refusal) (before behind : ℕ) → behind ≡ before → SyncsBehind why before behind
@@ -208,22 +227,32 @@ syncs_any why before behind (inl is) = subst (λ w. SyncsBehind w before behind)
 syncs_any why before behind (inr is) = subst (λ w. SyncsBehind w before behind) (sym is) tt
 
 -- the same where the first sync failed, or the line wasn't said
-syncs_host : (error : HostError) (before behind : ℕ) → SyncsRun None (Err (of_host error)) before behind
-syncs_host Fault before behind = tt
-syncs_host NoMemory before behind = tt
+pub syncs_host_begin : (error : HostError) (before behind : ℕ) → SyncsRun of_begin (Err (of_host error)) before behind
+syncs_host_begin Fault before behind = tt
+syncs_host_begin NoMemory before behind = tt
 
-syncs_line : (answer : Result (Unit {0}) HostError) (before behind : ℕ) → before + 1 ≤ behind
-    → SyncsRun None (said_answer answer) before behind
-syncs_line (Ok tt) before behind more = more
-syncs_line (Err Fault) before behind more = tt
-syncs_line (Err NoMemory) before behind more = tt
+pub syncs_host_run : (error : HostError) (before behind : ℕ) → SyncsRun of_run (Err (of_host error)) before behind
+syncs_host_run Fault before behind = tt
+syncs_host_run NoMemory before behind = tt
 
--- `start` syncs before no refusal by a cause
-pub syncs_start : (why : Refusal) (before behind : Tally) → ((NeedsNoCause why → ⊥) → behind ≡ before)
-    → SyncsBehind why before.syncs behind.syncs
-syncs_start why before behind unsynced = elim (free_or_not why) [
-  | inl free ↦ syncs_any why before.syncs behind.syncs free
-  | inr cause ↦ syncs_none why before.syncs behind.syncs (ap (λ (t : Tally). t.syncs) (unsynced cause))
+pub syncs_line_begin : (answer : Result (Unit {0}) HostError) (before behind : ℕ) → before + 1 ≤ behind
+    → SyncsRun of_begin (said_answer answer) before behind
+syncs_line_begin (Ok tt) before behind more = more
+syncs_line_begin (Err Fault) before behind more = tt
+syncs_line_begin (Err NoMemory) before behind more = tt
+
+pub syncs_line_run : (answer : Result (Unit {0}) HostError) (before behind : ℕ) → before + 1 ≤ behind
+    → SyncsRun of_run (said_answer answer) before behind
+syncs_line_run (Ok tt) before behind more = more
+syncs_line_run (Err Fault) before behind more = tt
+syncs_line_run (Err NoMemory) before behind more = tt
+
+-- what `start` and `demo` owe where they refuse, behind the first sync
+pub syncs_start : (why : Refusal) (before middle behind : Tally) → middle.syncs ≡ before.syncs + 1
+    → ((NeedsNoCause why → ⊥) → behind ≡ middle) → SyncsRun of_begin (Err why) before.syncs behind.syncs
+syncs_start why before middle behind one unsynced = elim (free_or_not why) [
+  | inl free ↦ syncs_free_begin why before.syncs behind.syncs free
+  | inr cause ↦ syncs_begin why before.syncs behind.syncs (ap (λ (t : Tally). t.syncs) (unsynced cause) ∙ one)
 ]
 
 -- a slot that is spoilt is no file of the journal
@@ -263,15 +292,15 @@ syncs_go target files why before behind (inr (inr spoilt)) unsynced more =
 
 -- the first sync failed
 pub counts_first : {H T : Type 0} {m : HostModel H} {by : Image → Image → Type 0} {old new : H} {result : Result T HostError}
-    {error : HostError} → RanSyncing m 1 Fault by old new result → result ≡ Err error
-    → CountsRun m None old new (Err (of_host error))
-counts_first {old = old} {new = new} {error = error} ran is = record {
+    {error : HostError} (all : Syncs) → ((before behind : ℕ) → SyncsRun all (Err (of_host error)) before behind)
+    → RanSyncing m 1 Fault by old new result → result ≡ Err error → CountsRun m all old new (Err (of_host error))
+counts_first {old = old} {new = new} {error = error} all free ran is = record {
   count = ran.count;
   rose = λ err. ran.rose (is ∙ ap Err (by_device error err));
   spared = λ other. ran.spared (λ err. other (to_device error (sym is ∙ err)));
   refused = λ told. ap (λ (f : Channel → ℕ). f channels.Err) ran.refused;
   heard = λ told ok. absurd (search rules);
-  syncs = λ told. syncs_host error _ _;
+  syncs = λ told. free _ _;
 } where
   by_device : (error : HostError) → ◌≡◌ {A = Result (Unit {0}) Refusal} (Err (of_host error)) (Err refusal.Device) → error ≡ Fault
   by_device Fault err = refl
@@ -284,11 +313,12 @@ counts_first {old = old} {new = new} {error = error} ran is = record {
 
 -- the session refused, behind the first sync
 pub counts_session : {H S T : Type 0} {m : HostModel H} {one two : Image → Image → Type 0} {old middle new : H}
-    {first : Result S HostError} {result : Result T Refusal} {why : Refusal} → IsOk first
+    {first : Result S HostError} {result : Result T Refusal} {why : Refusal} (all : Syncs) → IsOk first
     → RanSyncing m 1 Fault one old middle first → RanSession m two middle new result → result ≡ Err why
-    → (IsTrue m.tells → SyncsBehind why (m.tally middle).syncs (m.tally new).syncs)
-    → CountsRun m None old new (Err why)
-counts_session {m = m} {old = old} {middle = middle} {new = new} {why = why} ok before after is syncs =
+    → (IsTrue m.tells → (m.tally middle).syncs ≡ (m.tally old).syncs + 1
+    → SyncsRun all (Err why) (m.tally old).syncs (m.tally new).syncs)
+    → CountsRun m all old new (Err why)
+counts_session {m = m} {old = old} {middle = middle} {new = new} {why = why} all ok before after is syncs =
     let same = before.spared (ok_is_no_error ok) in
     record {
       count = subst (λ n. n ≤ m.faults new) same after.count;
@@ -296,7 +326,7 @@ counts_session {m = m} {old = old} {middle = middle} {new = new} {why = why} ok 
       spared = λ never. after.spared (λ err. never (ap Err (inside (sym is ∙ err)))) ∙ same;
       refused = λ told. after.refused told ∙ ap (λ (f : Channel → ℕ). f channels.Err) before.refused;
       heard = λ told fine. absurd (search rules);
-      syncs = λ told. syncs_behind why _ _ _ (before.synced told ok) (syncs told);
+      syncs = λ told. syncs told (before.synced told ok);
     } where
       inside : {T : Type 0} {a b : Refusal} → ◌≡◌ {A = Result T Refusal} (Err a) (Err b) → a ≡ b
       inside same = cc
@@ -304,7 +334,7 @@ counts_session {m = m} {old = old} {middle = middle} {new = new} {why = why} ok 
 -- a session that said its lines itself
 pub counts_whole : {H S T : Type 0} {m : HostModel H} {one two : Image → Image → Type 0} {old middle new : H}
     {first : Result S HostError} {result : Result T Refusal} → IsOk first → RanSyncing m 1 Fault one old middle first
-    → RanSession m two middle new result → IsOk result → CountsRun m None old new (Ok tt)
+    → RanSession m two middle new result → IsOk result → CountsRun m of_begin old new (Ok tt)
 counts_whole {m = m} {new = new} ok before after done =
     let same = before.spared (ok_is_no_error ok) in
     record {
@@ -320,10 +350,11 @@ counts_whole {m = m} {new = new} ok before after done =
 
 -- its line, behind the session
 pub counts_line : {H S T : Type 0} {m : HostModel H} {one two : Image → Image → Type 0} {old middle last new : H}
-    {first : Result S HostError} {result : Result T Refusal} {line : List ℕ} {answer : Result (Unit {0}) HostError} → IsOk first
+    {first : Result S HostError} {result : Result T Refusal} {line : List ℕ} {answer : Result (Unit {0}) HostError} (all : Syncs)
+    → ((before behind : ℕ) → before + 1 ≤ behind → SyncsRun all (said_answer answer) before behind) → IsOk first
     → RanSyncing m 1 Fault one old middle first → RanSession m two middle last result → IsOk result
-    → Spoke m channels.Out line last new answer → CountsRun m None old new (said_answer answer)
-counts_line {m = m} {new = new} {answer = answer} ok before after done spoke =
+    → Spoke m channels.Out line last new answer → CountsRun m all old new (said_answer answer)
+counts_line {m = m} {new = new} {answer = answer} all said ok before after done spoke =
     let spared = after.spared (ok_is_no_error done) ∙ before.spared (ok_is_no_error ok) in
     record {
       count = subst (λ n. n ≤ m.faults new) spared spoke.count;
@@ -333,7 +364,7 @@ counts_line {m = m} {new = new} {answer = answer} ok before after done spoke =
           ∙ after.refused told ∙ ap (λ (f : Channel → ℕ). f channels.Err) before.refused;
       heard = λ told fine. (spoke.refused told).spared (went answer fine)
           ∙ after.heard told done ∙ ap (λ (f : Channel → ℕ). f channels.Out) before.refused;
-      syncs = λ told. syncs_line answer _ _
+      syncs = λ told. said _ _
           (omega (arith, after.synced told done, before.synced told ok, ap (λ (n : ℕ). n) spoke.syncs));
     } where
       device : (answer : Result (Unit {0}) HostError) → said_answer answer ≡ Err refusal.Device → answer ≡ Err Fault

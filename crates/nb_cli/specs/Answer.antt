@@ -1,5 +1,5 @@
 -- What the program's one call answers.
-use Rattle.std.specs.Prelude.{◌≡◌, ◌≢◌, ◌⊎◌, ⊤, ℕ, ◌+◌, ◌^◌, ◌<◌, ◌≤◌, Bool, IsTrue, IsOk, Option, None, Some, Result, Ok, Err, List, [], ◌∷◌, ◌++◌, length, Contains}
+use Rattle.std.specs.Prelude.{◌≡◌, ◌≢◌, ◌⊎◌, ⊤, ℕ, ◌+◌, ◌^◌, ◌<◌, ◌≤◌, Bool, IsTrue, IsOk, Result, Ok, Err, List, [], ◌∷◌, ◌++◌, length, Contains}
 use Rattle.nb_model.specs.Leapfrog.{escaped_count}
 use Rattle.nb_host.specs.declared.host.Channel.TheVariants as channels
 use Rattle.nb_host.specs.declared.host.HostError.{HostError}
@@ -191,37 +191,48 @@ pub record RunTouches (honest : Bool) (words : List (List ℕ)) (files : ℕ →
 abbrev pub once_syncs : ℕ
 once_syncs = 5
 
--- How often the program syncs where a command is done: once before it, so that what it reads is durable, and as often as
--- the command does. Of `start`, `go`, `resume` and `demo` only the first is said: what each of the others is for stands in what a
--- crash may leave.
-abbrev pub syncs_of : Job → Option ℕ
-syncs_of (job.Start _) = None
-syncs_of (job.Go _ _) = None
-syncs_of (job.Resume _) = None
-syncs_of (job.Once _) = Some (once_syncs + 1)
-syncs_of job.Show = Some 1
-syncs_of (job.Make _ _) = Some (make_syncs + 1)
-syncs_of (job.Demo _ _ _ _) = None
+-- How often the program syncs where a command is done.
+pub data Syncs : Type 0 where
+  -- so often
+  exactly : ℕ → Syncs
+  -- At least once: what each sync is for stands in what a crash may leave. A refusal by a cause comes behind the first.
+  of_begin : Syncs
+  -- The same of a command that leads a run which is there: it may have synced a snapshot before it refuses a leg, and where a
+  -- page of bodies is damaged that it has read, it isn't said.
+  of_run : Syncs
 
--- How often a run syncs that ends so, before and behind, by how often it does where it is done: the first sync alone where
--- it can't be done, and, where that is said, at most all where the device failed or memory is wanting. `go` may have synced a
--- snapshot before it refuses a leg. Where a page is damaged that a session has read, it isn't said.
-abbrev pub SyncsRun : Option ℕ → Result (Unit {0}) Refusal → ℕ → ℕ → Type 0
-SyncsRun None (Ok _) before behind = before + 1 ≤ behind
-SyncsRun None (Err refusal.Device) before behind = ⊤
-SyncsRun None (Err refusal.NoMemory) before behind = ⊤
-SyncsRun None (Err (refusal.LegOpen _ _)) before behind = before + 1 ≤ behind
-SyncsRun None (Err (refusal.TickLimit _)) before behind = before + 1 ≤ behind
-SyncsRun None (Err (refusal.Damaged page)) before behind = page.file ≡ journal_file → behind ≡ before + 1
-SyncsRun None (Err why) before behind = behind ≡ before + 1
-SyncsRun (Some syncs) (Ok _) before behind = behind ≡ before + syncs
-SyncsRun (Some syncs) (Err refusal.Device) before behind = behind ≤ before + syncs
-SyncsRun (Some syncs) (Err refusal.NoMemory) before behind = behind ≤ before + syncs
-SyncsRun (Some syncs) (Err why) before behind = behind ≡ before + 1
+-- It syncs once before a command, so that what it reads is durable, and as often as the command does.
+abbrev pub syncs_of : Job → Syncs
+syncs_of (job.Start _) = of_begin
+syncs_of (job.Go _ _) = of_run
+syncs_of (job.Resume _) = of_run
+syncs_of (job.Once _) = exactly (once_syncs + 1)
+syncs_of job.Show = exactly 1
+syncs_of (job.Make _ _) = exactly (make_syncs + 1)
+syncs_of (job.Demo _ _ _ _) = of_begin
+
+-- How often a run syncs that ends so, before and behind: the first sync alone where it can't be done, and, where that is said, at
+-- most all where the device failed or memory is wanting.
+abbrev pub SyncsRun : Syncs → Result (Unit {0}) Refusal → ℕ → ℕ → Type 0
+SyncsRun (exactly syncs) (Ok _) before behind = behind ≡ before + syncs
+SyncsRun (exactly syncs) (Err refusal.Device) before behind = behind ≤ before + syncs
+SyncsRun (exactly syncs) (Err refusal.NoMemory) before behind = behind ≤ before + syncs
+SyncsRun (exactly syncs) (Err why) before behind = behind ≡ before + 1
+SyncsRun of_begin (Ok _) before behind = before + 1 ≤ behind
+SyncsRun of_begin (Err refusal.Device) before behind = ⊤
+SyncsRun of_begin (Err refusal.NoMemory) before behind = ⊤
+SyncsRun of_begin (Err why) before behind = behind ≡ before + 1
+SyncsRun of_run (Ok _) before behind = before + 1 ≤ behind
+SyncsRun of_run (Err refusal.Device) before behind = ⊤
+SyncsRun of_run (Err refusal.NoMemory) before behind = ⊤
+SyncsRun of_run (Err (refusal.LegOpen _ _)) before behind = before + 1 ≤ behind
+SyncsRun of_run (Err (refusal.TickLimit _)) before behind = before + 1 ≤ behind
+SyncsRun of_run (Err (refusal.Damaged page)) before behind = page.file ≡ journal_file → behind ≡ before + 1
+SyncsRun of_run (Err why) before behind = behind ≡ before + 1
 
 -- What a run owes to the counts. Device stands for a fault: it comes where the run came to an end at one, and every other
 -- answer where there was none. No say on Err was refused, and where it is done none at all.
-pub record CountsRun {H : Type 0} (m : HostModel H) (all : Option ℕ) (old new : H) (result : Result (Unit {0}) Refusal) : Type 0 where
+pub record CountsRun {H : Type 0} (m : HostModel H) (all : Syncs) (old new : H) (result : Result (Unit {0}) Refusal) : Type 0 where
   pub count : m.faults old ≤ m.faults new
   pub rose : result ≡ Err refusal.Device → Stopped m old new
   pub spared : result ≢ Err refusal.Device → m.faults new ≡ m.faults old

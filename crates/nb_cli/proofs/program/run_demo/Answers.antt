@@ -3,10 +3,10 @@ use Rattle.nb_host.specs.Image.{Image}
 use Rattle.nb_host.proofs.Callers.{stays_contents, leads_more}
 use Rattle.nb_engine.specs.Refusal.{of_host}
 use Rattle.nb_cli.specs.declared.words.Job.TheVariants as job
-use Rattle.nb_cli.specs.Answer.{IsJobDone}
+use Rattle.nb_cli.specs.Answer.{of_begin, IsJobDone}
 use Rattle.nb_cli.proofs.Causes.{IsCause, cause_still, given_by_demo, never_spoilt}
 use Rattle.nb_cli.proofs.Runs.{unsynced_run, begun_run}
-use Rattle.nb_cli.proofs.Sessions.{counts_first, counts_session, counts_whole, syncs_start}
+use Rattle.nb_cli.proofs.Sessions.{syncs_host_begin, counts_first, counts_session, counts_whole, syncs_start}
 use Rattle.nb_cli.proofs.program.run_demo.Goals as goal
 
 -- ---- why it is refused
@@ -66,7 +66,7 @@ returns-clause-done g c tells =
 pub returns-in_err-sync-clause-counts : goal.returns-in_err-sync-clause-counts
 returns-in_err-sync-clause-counts g c =
     let handed_on : c.from_residual.result ≡ Err (of_host c.in_err-sync.field-0.0) = search rules in
-    rw handed_on (counts_first c.sync.ensures.ran c.in_err-sync.was)
+    rw handed_on (counts_first of_begin (syncs_host_begin c.in_err-sync.field-0.0) c.sync.ensures.ran c.in_err-sync.was)
 
 pub returns-in_err-demo-clause-counts : goal.returns-in_err-demo-clause-counts
 returns-in_err-demo-clause-counts g c =
@@ -75,8 +75,8 @@ returns-in_err-demo-clause-counts g c =
     let fine : IsOk c.sync.result = search rules in
     let m = g.H.Host.meaning in
     rw handed_on
-    (counts_session fine c.sync.ensures.ran c.demo.ensures.ran c.in_err-demo.was
-    (λ told. syncs_start why (m.tally c.sync.new.self) (m.tally c.demo.new.host) (c.in_err-demo.ensures.unsynced told)))
+    (counts_session of_begin fine c.sync.ensures.ran c.demo.ensures.ran c.in_err-demo.was
+    (λ told one. syncs_start why (m.tally c.args.host.now) (m.tally c.sync.new.self) (m.tally c.demo.new.host) one (c.in_err-demo.ensures.unsynced told)))
 
 pub returns-clause-counts : goal.returns-clause-counts
 returns-clause-counts g c =

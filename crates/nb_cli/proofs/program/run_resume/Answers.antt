@@ -7,10 +7,10 @@ use Rattle.nb_engine.specs.Sessions.{ResumeLeads}
 use Rattle.nb_engine.proofs.Callers.{durable_said}
 use Rattle.nb_cli.specs.declared.words.Job.TheVariants as job
 use Rattle.nb_cli.specs.Telling.{HasResumed}
-use Rattle.nb_cli.specs.Answer.{IsJobDone}
+use Rattle.nb_cli.specs.Answer.{of_run, IsJobDone}
 use Rattle.nb_cli.proofs.Causes.{IsCause, cause_still, given_by_resume}
 use Rattle.nb_cli.proofs.Runs.{unsynced_run, begun_run, said_answer}
-use Rattle.nb_cli.proofs.Sessions.{session_done, resume_touches, resume_told, counts_first, counts_session, counts_line, syncs_resume}
+use Rattle.nb_cli.proofs.Sessions.{session_done, resume_touches, resume_told, syncs_host_run, syncs_line_run, counts_first, counts_session, counts_line, syncs_behind, syncs_resume}
 use Rattle.nb_cli.proofs.program.run_resume.Goals as goal
 
 -- ---- why it is refused
@@ -114,7 +114,7 @@ returns-clause-durable g c =
 pub returns-in_err-sync-clause-counts : goal.returns-in_err-sync-clause-counts
 returns-in_err-sync-clause-counts g c =
     let handed_on : c.from_residual.result ≡ Err (of_host c.in_err-sync.field-0.0) = search rules in
-    rw handed_on (counts_first c.sync.ensures.ran c.in_err-sync.was)
+    rw handed_on (counts_first of_run (syncs_host_run c.in_err-sync.field-0.0) c.sync.ensures.ran c.in_err-sync.was)
 
 pub returns-in_err-done-clause-counts : goal.returns-in_err-done-clause-counts
 returns-in_err-done-clause-counts g c =
@@ -123,20 +123,21 @@ returns-in_err-done-clause-counts g c =
     let fine : IsOk c.sync.result = search rules in
     let m = g.H.Host.meaning in
     rw handed_on
-    (counts_session fine c.sync.ensures.ran c.resume.ensures.ran c.in_err-done.was
-    (λ told. syncs_resume (m.contents c.sync.new.self).file why (m.tally c.sync.new.self) (m.tally c.resume.new.host)
-    (c.in_err-done.ensures.cause told) (c.in_err-done.ensures.unsynced told)))
+    (counts_session of_run fine c.sync.ensures.ran c.resume.ensures.ran c.in_err-done.was
+    (λ told one. syncs_behind why (m.tally c.args.host.now).syncs (m.tally c.sync.new.self).syncs _ one
+    (syncs_resume (m.contents c.sync.new.self).file why (m.tally c.sync.new.self) (m.tally c.resume.new.host)
+    (c.in_err-done.ensures.cause told) (c.in_err-done.ensures.unsynced told))))
 
 pub returns-in_err-say-clause-counts : goal.returns-in_err-say-clause-counts
 returns-in_err-say-clause-counts g c =
     let fine : IsOk c.sync.result = search rules in
     let done : IsOk c.resume.result = search rules in
     let handed_on : c.from_residual-in_err-say.result ≡ said_answer c.say.result = search rules in
-    rw handed_on (counts_line fine c.sync.ensures.ran c.resume.ensures.ran done c.say.ensures.spoke)
+    rw handed_on (counts_line of_run (syncs_line_run c.say.result) fine c.sync.ensures.ran c.resume.ensures.ran done c.say.ensures.spoke)
 
 pub returns-clause-counts : goal.returns-clause-counts
 returns-clause-counts g c =
     let fine : IsOk c.sync.result = search rules in
     let done : IsOk c.resume.result = search rules in
     let handed_on : c.say.result ≡ Ok tt = search rules in
-    rw handed_on at (counts_line fine c.sync.ensures.ran c.resume.ensures.ran done c.say.ensures.spoke)
+    rw handed_on at (counts_line of_run (syncs_line_run c.say.result) fine c.sync.ensures.ran c.resume.ensures.ran done c.say.ensures.spoke)

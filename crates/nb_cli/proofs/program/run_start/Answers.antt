@@ -7,10 +7,10 @@ use Rattle.nb_engine.specs.Start.{StartLeads}
 use Rattle.nb_engine.proofs.Callers.{durable_said}
 use Rattle.nb_cli.specs.declared.words.Job.TheVariants as job
 use Rattle.nb_cli.specs.Telling.{HasStarted}
-use Rattle.nb_cli.specs.Answer.{IsJobDone}
+use Rattle.nb_cli.specs.Answer.{of_begin, IsJobDone}
 use Rattle.nb_cli.proofs.Causes.{IsCause, cause_still, given_by_start, never_spoilt}
 use Rattle.nb_cli.proofs.Runs.{unsynced_run, begun_run, said_answer}
-use Rattle.nb_cli.proofs.Sessions.{started_told, session_done, start_touches, start_told, counts_first, counts_session, counts_line, syncs_start}
+use Rattle.nb_cli.proofs.Sessions.{started_told, session_done, start_touches, start_told, syncs_host_begin, syncs_line_begin, counts_first, counts_session, counts_line, syncs_start}
 use Rattle.nb_cli.proofs.program.run_start.Goals as goal
 
 -- ---- why it is refused
@@ -108,7 +108,7 @@ returns-clause-durable g c =
 pub returns-in_err-sync-clause-counts : goal.returns-in_err-sync-clause-counts
 returns-in_err-sync-clause-counts g c =
     let handed_on : c.from_residual.result ≡ Err (of_host c.in_err-sync.field-0.0) = search rules in
-    rw handed_on (counts_first c.sync.ensures.ran c.in_err-sync.was)
+    rw handed_on (counts_first of_begin (syncs_host_begin c.in_err-sync.field-0.0) c.sync.ensures.ran c.in_err-sync.was)
 
 pub returns-in_err-begun-clause-counts : goal.returns-in_err-begun-clause-counts
 returns-in_err-begun-clause-counts g c =
@@ -117,19 +117,19 @@ returns-in_err-begun-clause-counts g c =
     let fine : IsOk c.sync.result = search rules in
     let m = g.H.Host.meaning in
     rw handed_on
-    (counts_session fine c.sync.ensures.ran c.start.ensures.ran c.in_err-begun.was
-    (λ told. syncs_start why (m.tally c.sync.new.self) (m.tally c.start.new.host) (c.in_err-begun.ensures.unsynced told)))
+    (counts_session of_begin fine c.sync.ensures.ran c.start.ensures.ran c.in_err-begun.was
+    (λ told one. syncs_start why (m.tally c.args.host.now) (m.tally c.sync.new.self) (m.tally c.start.new.host) one (c.in_err-begun.ensures.unsynced told)))
 
 pub returns-in_err-say-clause-counts : goal.returns-in_err-say-clause-counts
 returns-in_err-say-clause-counts g c =
     let fine : IsOk c.sync.result = search rules in
     let done : IsOk c.start.result = search rules in
     let handed_on : c.from_residual-in_err-say.result ≡ said_answer c.say.result = search rules in
-    rw handed_on (counts_line fine c.sync.ensures.ran c.start.ensures.ran done c.say.ensures.spoke)
+    rw handed_on (counts_line of_begin (syncs_line_begin c.say.result) fine c.sync.ensures.ran c.start.ensures.ran done c.say.ensures.spoke)
 
 pub returns-clause-counts : goal.returns-clause-counts
 returns-clause-counts g c =
     let fine : IsOk c.sync.result = search rules in
     let done : IsOk c.start.result = search rules in
     let handed_on : c.say.result ≡ Ok tt = search rules in
-    rw handed_on at (counts_line fine c.sync.ensures.ran c.start.ensures.ran done c.say.ensures.spoke)
+    rw handed_on at (counts_line of_begin (syncs_line_begin c.say.result) fine c.sync.ensures.ran c.start.ensures.ran done c.say.ensures.spoke)
