@@ -19,7 +19,7 @@ use Rattle.nb_cli.specs.declared.words.Job.TheVariants as job
 use Rattle.nb_cli.specs.Words.{IsJob}
 use Rattle.nb_engine.specs.Start.{Start, HasStart, IsNoStart, IsStartReady, IsStartRefused, IsOfStart}
 use Rattle.nb_cli.specs.Stop.{IsGiven}
-use Rattle.nb_cli.specs.Once.{IsReady, IsOfOnce, IsRefused}
+use Rattle.nb_cli.specs.Once.{IsOnceReady, IsOfOnce, IsOnceRefused}
 use Rattle.nb_cli.specs.Make.{CanMake, IsThere, IsOfMake}
 use Rattle.nb_cli.specs.Demo.{CanDemo, IsDemoRefused, IsOfDemo}
 use Rattle.nb_cli.proofs.Commands.{one_job}
@@ -41,7 +41,7 @@ one_start {files} {a} {b} first second =
     same_start a b params same.0 same.1
 
 -- Where `once` can be done nothing else holds.
-pub not_refused : {files : ℕ → List ℕ} {target : ℕ} {start : Start} {why : Refusal} → IsReady files target start → IsRefused files target why → ⊥
+pub not_refused : {files : ℕ → List ℕ} {target : ℕ} {start : Start} {why : Refusal} → IsOnceReady files target start → IsOnceRefused files target why → ⊥
 not_refused ready (inl none) = let p = ready.starts.parameters in let q = none.1.refused in cc
 not_refused ready (inr (inl none)) =
     let p = snapshot_none _ _ _ ready.starts.snapshot in let q = none.2.refused in cc
@@ -105,7 +105,7 @@ no_cause {words = words} {files = files} job is ready (inr some) =
     not_refused_job files job some.1 ready (subst P (one_job words some.0 job some.3 is) some.4)
 
 -- Two causes don't hold together.
-one_refusal : {files : ℕ → List ℕ} {target : ℕ} {a b : Refusal} → IsRefused files target a → IsRefused files target b → a ≡ b
+one_refusal : {files : ℕ → List ℕ} {target : ℕ} {a b : Refusal} → IsOnceRefused files target a → IsOnceRefused files target b → a ≡ b
 one_refusal (inl first) (inl second) = let p = first.1.refused in let q = second.1.refused in let r = first.2 in let s = second.2 in cc
 one_refusal (inl first) (inr (inl second)) = let p = first.1.refused in let q = second.2.parameters in absurd (cc)
 one_refusal (inl first) (inr (inr second)) = let p = first.1.refused in let q = second.1.starts.parameters in absurd (cc)

@@ -37,7 +37,7 @@ use Rattle.nb_cli.specs.Once.{once_file}
 use Rattle.nb_cli.specs.Make.{made_start, IsMadeFrom, IsMakeUnderWay}
 use Rattle.nb_cli.specs.Demo.{CanDemo, demo_text, IsDemoUnderWay}
 use Rattle.nb_cli.specs.Words.{IsJob, IsNoCommand}
-use Rattle.nb_cli.specs.Answer.{IsUntouched, IsPartlyDone, IsJobPartlyDone, Touches, RunTouches, HasBegun, HasBegunOrNot, WasTold}
+use Rattle.nb_cli.specs.Answer.{IsUntouched, IsOncePartlyDone, IsJobPartlyDone, Touches, RunTouches, HasBegun, HasBegunOrNot, WasTold}
 use Rattle.nb_cli.specs.Worlds.{IsLater, KeepsSnapshots, TakesTicks, MayAdd, StartsDemo, MayStart, GoesFurther, start_files, IsLeftAlone, Extends, ExtendsOrNot}
 use Rattle.nb_cli.proofs.Commands.{one_job}
 use Rattle.nb_cli.proofs.DemoStages.{IsStartedOn, two_apart, kept_made, same_made, fresh_made, started_on}
@@ -309,7 +309,7 @@ resume_extends pace old new sound leads = record {
 
 -- ---- `once`, `show` and `make`
 
-once_extends : (target : ℕ) (start : Start) (old new : Image) → IsPartlyDone target start old new → Extends (job.Once target) old new
+once_extends : (target : ℕ) (start : Start) (old new : Image) → IsOncePartlyDone target start old new → Extends (job.Once target) old new
 once_extends target start old new partly = record {
   goes = λ h is represents.
       still_there (job.Once target) h old new is

@@ -24,25 +24,25 @@ use Rattle.nb_journal.specs.Offsets.{journal_file}
 use Rattle.nb_cli.specs.declared.words.Job.{Job}
 use Rattle.nb_cli.specs.declared.words.Job.TheVariants as job
 use Rattle.nb_engine.specs.Start.{Start}
-use Rattle.nb_cli.specs.Once.{once_file, ticks_to as ticks_from, list_at, IsReady}
+use Rattle.nb_cli.specs.Once.{once_file, once_ticks, list_at, IsOnceReady}
 use Rattle.nb_cli.specs.Done.{TellsOf, BecomesAny, MayWrite}
 use Rattle.nb_cli.specs.Show.{folder_text, show_text}
 use Rattle.nb_engine.specs.Steps.{SaidFrontOf}
-use Rattle.nb_cli.specs.Answer.{IsPartlyDone, JobTouches, JobBegins, JobBeginsOrNot, exactly, CountsRun, SyncsRun}
+use Rattle.nb_cli.specs.Answer.{IsOncePartlyDone, JobTouches, JobBegins, JobBeginsOrNot, exactly, CountsRun, SyncsRun}
 
 pub Out≢Err : ◌≡◌ {A = Channel} channels.Err channels.Out → ⊥
 Out≢Err same = cc
 
 -- the line of a start at the target
 abbrev pub line_at : ℕ → Start → List ℕ
-line_at target start = once_line target (ticks_from target start) (escaped_count (list_at target start))
+line_at target start = once_line target (once_ticks target start) (escaped_count (list_at target start))
 
 -- the line that was made of the answer is that of the start
 line_of-answer : {target : ℕ} {start : Start} {done : Done} (line : List ℕ) → line ≡ once_line done.time done.ticks done.gone
     → TellsOf target start done → line ≡ line_at target start
 line_of-answer {target} {start} {done} line is tells =
     is ∙ ap (λ (t : ℕ). once_line t done.ticks done.gone) tells.time ∙ ap (λ (k : ℕ). once_line target k done.gone) tells.ticks
-    ∙ ap (λ (n : ℕ). once_line target (ticks_from target start) n) tells.gone
+    ∙ ap (λ (n : ℕ). once_line target (once_ticks target start) n) tells.gone
 
 -- What `once` may have written.
 
@@ -57,7 +57,7 @@ said_still (inr some) = some.2.said
 
 -- only the file was changed
 within_file : {P : List ℕ → List ℕ → Type 0} {target : ℕ} {start : Start} {old now : Image}
-    → FileBecomes once_file P old now → IsPartlyDone target start old now
+    → FileBecomes once_file P old now → IsOncePartlyDone target start old now
 within_file {old = old} changed =
     let out = ap (λ (f : Channel → List ℕ). f channels.Out) changed.said in
     record {
@@ -78,17 +78,17 @@ touched_by_file (inr some) = record {
 -- The line is to be said: the file is the snapshot.
 pub record IsToSay (files : ℕ → List ℕ) (target : ℕ) (line : List ℕ) (now : Image) : Type 0 where
   pub start : Start
-  pub ready : IsReady files target start
+  pub ready : IsOnceReady files target start
   pub line_is : line ≡ line_at target start
   pub snapshot : IsSnapshot (now.file once_file) (list_at target start) target
 
 pub to_say : {target : ℕ} {old middle now : Image} {done : Done} (line : List ℕ) → middle ≡ old
-    → ((start : Start) × IsReady middle.file target start × TellsOf target start done
+    → ((start : Start) × IsOnceReady middle.file target start × TellsOf target start done
     × FileBecomes once_file (IsFinishedAs (list_at target start) target) middle now)
     → line ≡ once_line done.time done.ticks done.gone → IsToSay old.file target line now
 to_say {target = target} line same done is = record {
   start = done.0;
-  ready = subst (λ (i : Image). IsReady i.file target done.0) same done.1;
+  ready = subst (λ (i : Image). IsOnceReady i.file target done.0) same done.1;
   line_is = line_of-answer line is done.2;
   snapshot = done.3.file;
 }
@@ -123,7 +123,7 @@ leads_none_written stays = leads_more stays (λ start image same. inl same)
 
 -- the file is written where `once` can be done
 pub leads_written : {H : Type 0} {m : HostModel H} {files : ℕ → List ℕ} {target : ℕ} {old middle new : H} → Leads m Stays old middle
-    → (IsTrue m.tells → (start : Start) × IsReady files target start)
+    → (IsTrue m.tells → (start : Start) × IsOnceReady files target start)
     → Leads m (FileBecomes once_file BecomesAny) middle new → Leads m (MayWrite files target) old new
 leads_written {m = m} {files = files} {target = target} {middle = middle} {new = new} stays ready wrote =
     let later : Leads m (MayWrite files target) middle new = record {

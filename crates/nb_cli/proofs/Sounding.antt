@@ -37,12 +37,12 @@ use Rattle.nb_engine.proofs.Callers.{LineTellsOne, told_goes, small_log, ticks-l
 use Rattle.nb_cli.specs.declared.words.Job.{Job}
 use Rattle.nb_cli.specs.declared.words.Job.TheVariants as job
 use Rattle.nb_cli.specs.Telling.{HasStarted, HasGone, HasResumed, IsDoneThenTold, LeadsThenTells}
-use Rattle.nb_cli.specs.Answer.{IsPartlyDone, IsJobPartlyDone, Touches}
+use Rattle.nb_cli.specs.Answer.{IsOncePartlyDone, IsJobPartlyDone, Touches}
 use Rattle.nb_cli.specs.Make.{IsMakeUnderWay}
 use Rattle.nb_cli.specs.Demo.{coordinate_sum, demo_list, summary_line, IsDemoUnderWay}
 use Rattle.nb_cli.proofs.Commands.{paced, once_fits}
 use Rattle.nb_cli.proofs.DemoStages.{IsLedOn, fresh_made, started_on, led_on}
-use Rattle.nb_cli.specs.Once.{once_file, ticks_to as ticks_from, list_at, IsReady}
+use Rattle.nb_cli.specs.Once.{once_file, once_ticks, list_at, IsOnceReady}
 use Rattle.nb_cli.specs.Show.{show_text}
 use Rattle.nb_cli.specs.Words.{IsJob}
 
@@ -171,15 +171,15 @@ told_resume did =
     subst IsOtherText (sym did.line_is)
     (done_is_other did.done.time did.done.ticks did.done.gone did.fits.time did.fits.ticks did.fits.gone)
 
-sound_once : (target : ℕ) (start : Start) {files : ℕ → List ℕ} {old new : Image} → target < 2 ^ 64 → IsReady files target start
-    → IsPartlyDone target start old new → IsSoundImage old → IsSoundImage new
+sound_once : (target : ℕ) (start : Start) {files : ℕ → List ℕ} {old new : Image} → target < 2 ^ 64 → IsOnceReady files target start
+    → IsOncePartlyDone target start old new → IsSoundImage old → IsSoundImage new
 sound_once target start fits ready partly sound =
     let snapshot = ready.starts.snapshot in
     let ways = directions_to start.time target in
     let many = length-steps start.params ways start.bodies in
     let few = count_by-le-length (λ (b : Body). b.out) (list_at target start) in
     sound_beside
-    (once_is_other target (ticks_from target start) (escaped_count (list_at target start)) fits
+    (once_is_other target (once_ticks target start) (escaped_count (list_at target start)) fits
     (omega (arith, snapshot.fits)) (omega (arith, few, many, snapshot.stored.count)))
     partly.others partly.out sound
 

@@ -22,17 +22,17 @@ use Rattle.nb_engine.specs.declared.refusal.Refusal.TheVariants as refusal
 use Rattle.nb_engine.specs.Refusal.{NeedsNoCause, of_snapshot}
 use Rattle.nb_engine.specs.Start.{Start, HasStart, IsOfParameters}
 use Rattle.nb_engine.specs.Files.{params_file, init_file}
-use Rattle.nb_cli.specs.Once.{once_file, most_once_bodies, list_at, once_refusal, IsOfOnce, IsRefused}
+use Rattle.nb_cli.specs.Once.{once_file, most_once_bodies, list_at, once_refusal, IsOfOnce, IsOnceRefused}
 
 snapshot_refused : {files : ℕ → List ℕ} {target : ℕ} {params : Params} {error : SnapError} → params_of (files params_file) ≡ Ok params
-    → snapshot_refusal (files init_file) ≡ Some error → NeedsNoCause (refusal.Snapshot error) ⊎ IsRefused files target (refusal.Snapshot error)
+    → snapshot_refusal (files init_file) ≡ Some error → NeedsNoCause (refusal.Snapshot error) ⊎ IsOnceRefused files target (refusal.Snapshot error)
 snapshot_refused {params = params} {error = error} parameters refused =
     inr (inr (inl (params, error, record { parameters = parameters; refused = refused }, refl)))
 
 -- what a refusal of the reader is to the program
 pub refused_by_reader : {files : ℕ → List ℕ} {target : ℕ} {params : Params} (error : SnapError) → params_of (files params_file) ≡ Ok params
     → (IsBySnapshot error → snapshot_refusal (files init_file) ≡ Some error)
-    → NeedsNoCause (of_snapshot error) ⊎ IsRefused files target (of_snapshot error)
+    → NeedsNoCause (of_snapshot error) ⊎ IsOnceRefused files target (of_snapshot error)
 refused_by_reader snap.Fault parameters why = inl (inl refl)
 refused_by_reader snap.NoMemory parameters why = inl (inr refl)
 refused_by_reader snap.Short parameters why = snapshot_refused parameters (why tt)

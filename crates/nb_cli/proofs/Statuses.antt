@@ -29,7 +29,7 @@ use Rattle.nb_cli.specs.declared.words.Job.{Job}
 use Rattle.nb_cli.specs.declared.words.Job.TheVariants as job
 use Rattle.nb_cli.specs.Words.{IsJob, IsNoCommand}
 use Rattle.nb_cli.specs.Stop.{status_of, stop_status, IsWithoutCause, IsSayable}
-use Rattle.nb_cli.specs.Once.{once_file, ticks_to, list_at}
+use Rattle.nb_cli.specs.Once.{once_file, once_ticks, list_at}
 use Rattle.nb_cli.specs.Show.{show_text}
 use Rattle.nb_engine.specs.Files.{init_file}
 use Rattle.nb_cli.specs.Make.{HasMade, ParamsComeFirst, IsMaking, IsMakeUnderWay}
@@ -332,7 +332,7 @@ partly_told honest files (job.Once target) old {middle = middle} {now = now} som
     let start = some.0 in
     let within = some.2 in
     let spared = part.2.others channels.Out Err≢Out in
-    let P : List ℕ → Type 0 = λ said. SaidFrontOf (once_line target (ticks_to target start) (escaped_count (list_at target start))) (old.said channels.Out) said in
+    let P : List ℕ → Type 0 = λ said. SaidFrontOf (once_line target (once_ticks target start) (escaped_count (list_at target start))) (old.said channels.Out) said in
     let Q : List ℕ → (ℕ → List ℕ) → Type 0 = λ said files. (said ≡ old.said channels.Out) ⊎ IsSnapshot (files once_file) (list_at target start) target in (
       start,
       some.1,

@@ -26,7 +26,7 @@ use Rattle.nb_cli.specs.Words.{IsJob, IsNoCommand}
 use Rattle.nb_cli.specs.Stop.{stop_status, stop_line, IsWithoutCause}
 use Rattle.nb_engine.specs.Snapshots.{snapshot_files}
 use Rattle.nb_engine.specs.Start.{Start, IsStartReady, IsStartRefused, StartLeads}
-use Rattle.nb_cli.specs.Once.{once_file, ticks_to as ticks_from, list_at, IsReady, IsRefused}
+use Rattle.nb_cli.specs.Once.{once_file, once_ticks, list_at, IsOnceReady, IsOnceRefused}
 use Rattle.nb_cli.specs.Show.{show_text}
 use Rattle.nb_cli.specs.Make.{CanMake, IsThere, IsMade, IsMakeUnderWay, make_syncs}
 use Rattle.nb_cli.specs.Telling.{HasStarted, HasGone, HasResumed, IsDoneThenTold, LeadsThenTells}
@@ -53,7 +53,7 @@ abbrev pub IsJobReady : (ℕ → List ℕ) → Job → Type 0
 IsJobReady files (job.Start pages) = (start : Start) × IsStartReady files start
 IsJobReady files (job.Go target pace) = CanGo target files
 IsJobReady files (job.Resume pace) = CanResume files
-IsJobReady files (job.Once target) = (start : Start) × IsReady files target start
+IsJobReady files (job.Once target) = (start : Start) × IsOnceReady files target start
 IsJobReady files job.Show = (log : Log) × IsJournal log (files journal_file)
 IsJobReady files (job.Make seed count) = CanMake files
 IsJobReady files (job.Demo seed count target pace) = CanDemo files target
@@ -63,7 +63,7 @@ abbrev pub IsJobRefused : (ℕ → List ℕ) → Job → Refusal → Type 0
 IsJobRefused files (job.Start pages) why = IsStartRefused files why
 IsJobRefused files (job.Go target pace) why = IsGoRefused target files why
 IsJobRefused files (job.Resume pace) why = IsNotShown (files journal_file) why
-IsJobRefused files (job.Once target) why = IsRefused files target why
+IsJobRefused files (job.Once target) why = IsOnceRefused files target why
 IsJobRefused files job.Show why = IsNotShown (files journal_file) why
 IsJobRefused files (job.Make seed count) why = IsThere files why
 IsJobRefused files (job.Demo seed count target pace) why = IsDemoRefused files target why
@@ -99,17 +99,17 @@ pub record ComesByCause (words : List (List ℕ)) (files : ℕ → List ℕ) (ex
   pub always : HasCauseOf words files expected → (status ≡ expected) ⊎ Yields status ⊎ IsSpoiltBy words files status
 
 -- `once` is done: its file is the snapshot of the list at the target, its line was said, and nothing else changed.
-pub record IsDone (target : ℕ) (start : Start) (old new : Image) : Type 0 where
+pub record IsOnceDone (target : ℕ) (start : Start) (old new : Image) : Type 0 where
   pub snapshot : IsSnapshot (new.file once_file) (list_at target start) target
   pub others : (number : ℕ) → number ≢ once_file → new.file number ≡ old.file number
-  pub out : new.said channels.Out ≡ old.said channels.Out ++ once_line target (ticks_from target start) (escaped_count (list_at target start))
+  pub out : new.said channels.Out ≡ old.said channels.Out ++ once_line target (once_ticks target start) (escaped_count (list_at target start))
   pub err : new.said channels.Err ≡ old.said channels.Err
 
 -- What `once` may have changed at some moment, done or not: its own file, and a front of its line on Out, of which nothing
 -- is said before the file is the snapshot.
-pub record IsPartlyDone (target : ℕ) (start : Start) (old new : Image) : Type 0 where
+pub record IsOncePartlyDone (target : ℕ) (start : Start) (old new : Image) : Type 0 where
   pub others : (number : ℕ) → number ≢ once_file → new.file number ≡ old.file number
-  pub out : SaidFrontOf (once_line target (ticks_from target start) (escaped_count (list_at target start))) (old.said channels.Out) (new.said channels.Out)
+  pub out : SaidFrontOf (once_line target (once_ticks target start) (escaped_count (list_at target start))) (old.said channels.Out) (new.said channels.Out)
   pub said_last : (new.said channels.Out ≡ old.said channels.Out) ⊎ IsSnapshot (new.file once_file) (list_at target start) target
 
 -- `show` is done: the journal's text was said, and nothing else changed.
@@ -130,7 +130,7 @@ abbrev pub IsJobDone : Bool → Job → Image → Image → Type 0
 IsJobDone honest (job.Start pages) old new = IsDoneThenTold (StartLeads honest) HasStarted old new
 IsJobDone honest (job.Go target pace) old new = IsDoneThenTold (GoLeads honest target) (HasGone target) old new
 IsJobDone honest (job.Resume pace) old new = IsDoneThenTold (ResumeLeads honest) HasResumed old new
-IsJobDone honest (job.Once target) old new = (start : Start) × IsReady old.file target start × IsDone target start old new
+IsJobDone honest (job.Once target) old new = (start : Start) × IsOnceReady old.file target start × IsOnceDone target start old new
 IsJobDone honest job.Show old new = (log : Log) × IsJournal log (old.file journal_file) × IsShown log old new
 IsJobDone honest (job.Make seed count) old new = IsMade seed count old new
 IsJobDone honest (job.Demo seed count target pace) old new = IsDemoDone honest seed count target old new
@@ -140,7 +140,7 @@ abbrev pub IsJobPartlyDone : Bool → (ℕ → List ℕ) → Job → Image → I
 IsJobPartlyDone honest files (job.Start pages) old new = LeadsThenTells (StartLeads honest) HasStarted old new
 IsJobPartlyDone honest files (job.Go target pace) old new = LeadsThenTells (GoLeads honest target) (HasGone target) old new
 IsJobPartlyDone honest files (job.Resume pace) old new = LeadsThenTells (ResumeLeads honest) HasResumed old new
-IsJobPartlyDone honest files (job.Once target) old new = (start : Start) × IsReady files target start × IsPartlyDone target start old new
+IsJobPartlyDone honest files (job.Once target) old new = (start : Start) × IsOnceReady files target start × IsOncePartlyDone target start old new
 IsJobPartlyDone honest files job.Show old new = (log : Log) × IsJournal log (files journal_file) × IsPartlyShown log old new
 IsJobPartlyDone honest files (job.Make seed count) old new = IsMakeUnderWay seed count old new
 IsJobPartlyDone honest files (job.Demo seed count target pace) old new = IsDemoUnderWay honest seed count target old new

@@ -4,12 +4,12 @@ use Rattle.nb_model.specs.Leapfrog.{escaped_count}
 use Rattle.nb_cli.specs.declared.once_command.Done.{Done}
 use Rattle.nb_host.specs.Image.{Image, FileBecomes}
 use Rattle.nb_engine.specs.Start.{Start}
-use Rattle.nb_cli.specs.Once.{once_file, ticks_to, list_at, IsReady}
+use Rattle.nb_cli.specs.Once.{once_file, once_ticks, list_at, IsOnceReady}
 
 -- The answer tells the target, the ticks from the start to it, and how many bodies have left the box there.
 pub record TellsOf (target : ℕ) (start : Start) (done : Done) : Type 0 where
   pub time : done.time ≡ target
-  pub ticks : done.ticks ≡ ticks_to target start
+  pub ticks : done.ticks ≡ once_ticks target start
   pub gone : done.gone ≡ escaped_count (list_at target start)
 
 -- A file may become anything.
@@ -20,4 +20,4 @@ BecomesAny old new = ⊤
 -- be done.
 abbrev pub MayWrite : (ℕ → List ℕ) → ℕ → Image → Image → Type 0
 MayWrite files target old new =
-    (new ≡ old) ⊎ ((start : Start) × IsReady files target start × FileBecomes once_file BecomesAny old new)
+    (new ≡ old) ⊎ ((start : Start) × IsOnceReady files target start × FileBecomes once_file BecomesAny old new)

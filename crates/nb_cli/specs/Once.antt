@@ -23,8 +23,8 @@ abbrev pub most_once_bodies : ℕ
 most_once_bodies = 4096
 
 -- the ticks from the start to the target, forward or back
-abbrev pub ticks_to : ℕ → Start → ℕ
-ticks_to target start = (target - start.time) + (start.time - target)
+abbrev pub once_ticks : ℕ → Start → ℕ
+once_ticks target start = (target - start.time) + (start.time - target)
 
 -- the list at the target
 abbrev pub list_at : ℕ → Start → List Body
@@ -36,10 +36,10 @@ abbrev pub once_refusal : ℕ → Start → Option Refusal
 once_refusal target start =
     if nat_lt most_once_bodies (length start.bodies) then Some (refusal.TooMany (length start.bodies))
     else option_or (start_refusal start.params start.bodies)
-    (if nat_lt most_ticks (ticks_to target start) then Some (refusal.TickLimit (ticks_to target start)) else None)
+    (if nat_lt most_ticks (once_ticks target start) then Some (refusal.TickLimit (once_ticks target start)) else None)
 
 -- `once` can be done: the files spell this start, which it takes to the target.
-pub record IsReady (files : ℕ → List ℕ) (target : ℕ) (start : Start) : Type 0 where
+pub record IsOnceReady (files : ℕ → List ℕ) (target : ℕ) (start : Start) : Type 0 where
   pub starts : HasStart files start
   pub takes : once_refusal target start ≡ None
 
@@ -61,8 +61,8 @@ IsOfOnce _ = ⊥
 
 -- The first cause, in this order, for which `once` refuses by what its files hold: the parameter text, the snapshot, and
 -- what they spell.
-abbrev pub IsRefused : (ℕ → List ℕ) → ℕ → Refusal → Type 0
-IsRefused files target why =
+abbrev pub IsOnceRefused : (ℕ → List ℕ) → ℕ → Refusal → Type 0
+IsOnceRefused files target why =
     ((error : ParamsError) × HasNoParams files error × (why ≡ refusal.Params error))
     ⊎ ((params : Params) × (error : SnapError) × HasNoSnapshot files params error × (why ≡ refusal.Snapshot error))
     ⊎ ((start : Start) × IsNotTaken files target start why)

@@ -12,7 +12,7 @@ ghost use Rattle.nb_host.specs.Meaning.{Over, RanSyncing, IsDurable};
 ghost use Rattle.nb_format.specs.Writer.{IsFinishedAs};
 ghost use Rattle.nb_engine.specs.Refusal.{NeedsNoCause};
 ghost use Rattle.nb_engine.specs.Start.{Start, start_refusal as refusal_of_start};
-ghost use Rattle.nb_cli.specs.Once.{once_file, most_once_bodies, ticks_to, list_at, once_refusal as refusal_of_once, IsReady, IsOfOnce, IsRefused};
+ghost use Rattle.nb_cli.specs.Once.{once_file, most_once_bodies, once_ticks, list_at, once_refusal as refusal_of_once, IsOnceReady, IsOfOnce, IsOnceRefused};
 ghost use Rattle.nb_cli.specs.Answer.{once_syncs};
 ghost use Rattle.nb_cli.specs.Done.{TellsOf, BecomesAny, MayWrite};
 
@@ -45,11 +45,11 @@ pub struct Done {
 pub fn once<H: Host>(alloc: Global, host: &mut H, target: u64) -> Result<Done, Refusal>
     // What each answer says of the files as they were.
     ensures done { IfOk result (λ done. IsTrue H.meaning.tells
-        → (start : Start) × IsReady (H.meaning.contents host.old).file target start × TellsOf target start done
+        → (start : Start) × IsOnceReady (H.meaning.contents host.old).file target start × TellsOf target start done
         × FileBecomes once_file (IsFinishedAs (list_at target start) target)
         (H.meaning.contents host.old) (H.meaning.contents host.new)) }
     ensures cause { IfErr result (λ why. IsTrue H.meaning.tells
-        → NeedsNoCause why ⊎ IsRefused (H.meaning.contents host.old).file target why) }
+        → NeedsNoCause why ⊎ IsOnceRefused (H.meaning.contents host.old).file target why) }
     ensures refusals { IfErr result IsOfOnce }
 
     // What it leaves at each moment: all as it was, until it comes so far as to write.

@@ -6,7 +6,7 @@ use Rattle.nb_format.specs.Reader.{time_of}
 use Rattle.nb_engine.specs.declared.init_file.Census.{Census}
 use Rattle.nb_engine.specs.Refusal.{NeedsNoCause, of_snapshot}
 use Rattle.nb_engine.specs.Start.{Start, HasStart}
-use Rattle.nb_cli.specs.Once.{list_at, IsReady, IsRefused}
+use Rattle.nb_cli.specs.Once.{list_at, IsOnceReady, IsOnceRefused}
 use Rattle.nb_cli.proofs.Starts.{refused_by_reader, header_read, refused_still, once_refusal-many, start_read, list_at-taken, written_list, parameters_of_once, snapshot_of_once, start_of_once}
 use Rattle.nb_cli.proofs.Runs.{leads_none_written, leads_written}
 use Rattle.nb_cli.proofs.once_command.once.Goals as goal
@@ -19,7 +19,7 @@ returns-in_err-survey-clause-cause g c =
     let files = (g.H.Host.meaning.contents c.args.host.now).file in
     let same = (stays_contents c.in_ok-reader.ensures.ran.leads) ∙ (stays_contents c.in_ok-params.ensures.ran.leads) in
     let handed_on : c.from_residual-in_err-survey.result ≡ Err (of_snapshot error) = search rules in
-    let why : IsTrue g.H.Host.meaning.tells → NeedsNoCause (of_snapshot error) ⊎ IsRefused files c.args.target (of_snapshot error) = λ told.
+    let why : IsTrue g.H.Host.meaning.tells → NeedsNoCause (of_snapshot error) ⊎ IsOnceRefused files c.args.target (of_snapshot error) = λ told.
     let read = header_read (stays_contents c.in_ok-reader.ensures.ran.leads) (c.in_ok-reader.ensures.header told) in
     refused_by_reader error (c.in_ok-params.ensures.spelled told) (λ by. refused_still same (c.in_err-survey.ensures.bad by told read)) in
     rw handed_on why
@@ -30,7 +30,7 @@ returns-in_err-bodies-clause-cause g c =
     let files = (g.H.Host.meaning.contents c.args.host.now).file in
     let same = (stays_contents c.in_ok-reader.ensures.ran.leads) ∙ (stays_contents c.in_ok-params.ensures.ran.leads) in
     let handed_on : c.from_residual-in_err-bodies.result ≡ Err (of_snapshot error) = search rules in
-    let why : IsTrue g.H.Host.meaning.tells → NeedsNoCause (of_snapshot error) ⊎ IsRefused files c.args.target (of_snapshot error) = λ told.
+    let why : IsTrue g.H.Host.meaning.tells → NeedsNoCause (of_snapshot error) ⊎ IsOnceRefused files c.args.target (of_snapshot error) = λ told.
     let read = header_read (stays_contents c.in_ok-reader.ensures.ran.leads) (c.in_ok-reader.ensures.header told) in
     refused_by_reader error (c.in_ok-params.ensures.spelled told) (λ by. refused_still same (c.in_err-bodies.ensures.bad by told read)) in
     rw handed_on why
@@ -67,7 +67,7 @@ returns-clause-done g c told =
     let read = header_read (stays_contents c.in_ok-reader.ensures.ran.leads) (c.in_ok-reader.ensures.header told) in
     let start : Start = record { params = c.in_ok-params.params; bodies = c.deref.result.now; time = c.time-time.result } in
     let starts : HasStart (g.H.Host.meaning.contents c.args.host.now).file start = start_read same (c.in_ok-params.ensures.spelled told) (c.in_ok-bodies.ensures.whole told read) c.deref.ensures.value c.time-time.ensures in
-    let ready : IsReady (g.H.Host.meaning.contents c.args.host.now).file c.args.target start = record { starts = starts; takes = sym c.once_refusal.ensures ∙ c.in_default.is } in
+    let ready : IsOnceReady (g.H.Host.meaning.contents c.args.host.now).file c.args.target start = record { starts = starts; takes = sym c.once_refusal.ensures ∙ c.in_default.is } in
     let unchanged = (stays_contents c.in_ok-bodies.ensures.ran.leads) ∙ same in
     let listed : c.deref-3.result.now ≡ list_at c.args.target start =
     c.deref-3.ensures.value ∙ list_at-taken c.in_ok-params.params c.deref.result.now c.time-time.result c.args.target c.leg_to-leg.ensures.ways (c.in_ok-advance.ensures.taken ∙ ap (steps c.in_ok-params.params (replicate c.leg_to-leg.result.ticks c.leg_to-leg.result.way)) (sym c.deref.ensures.value)) in (
@@ -153,7 +153,7 @@ returns-in_err-advance-clause-ran g c = record {
 pub returns-in_err-write_bodies-clause-ran : goal.returns-in_err-write_bodies-clause-ran
 returns-in_err-write_bodies-clause-ran g c =
     let same = (stays_contents c.in_ok-reader.ensures.ran.leads) ∙ (stays_contents c.in_ok-params.ensures.ran.leads) in
-    let ready : IsTrue g.H.Host.meaning.tells → (start : Start) × IsReady (g.H.Host.meaning.contents c.args.host.now).file c.args.target start = λ told.
+    let ready : IsTrue g.H.Host.meaning.tells → (start : Start) × IsOnceReady (g.H.Host.meaning.contents c.args.host.now).file c.args.target start = λ told.
     let read = header_read (stays_contents c.in_ok-reader.ensures.ran.leads) (c.in_ok-reader.ensures.header told) in
     let start : Start = record { params = c.in_ok-params.params; bodies = c.deref.result.now; time = c.time-time.result } in (
       start,
@@ -177,7 +177,7 @@ returns-in_err-write_bodies-clause-ran g c =
 pub returns-clause-ran : goal.returns-clause-ran
 returns-clause-ran g c =
     let same = (stays_contents c.in_ok-reader.ensures.ran.leads) ∙ (stays_contents c.in_ok-params.ensures.ran.leads) in
-    let ready : IsTrue g.H.Host.meaning.tells → (start : Start) × IsReady (g.H.Host.meaning.contents c.args.host.now).file c.args.target start = λ told.
+    let ready : IsTrue g.H.Host.meaning.tells → (start : Start) × IsOnceReady (g.H.Host.meaning.contents c.args.host.now).file c.args.target start = λ told.
     let read = header_read (stays_contents c.in_ok-reader.ensures.ran.leads) (c.in_ok-reader.ensures.header told) in
     let start : Start = record { params = c.in_ok-params.params; bodies = c.deref.result.now; time = c.time-time.result } in (
       start,
