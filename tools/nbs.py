@@ -64,6 +64,18 @@ FILE_ERRORS = {
 }
 
 
+def buffer_output():
+    """Has standard output take all that it is given. Where Python is told not to buffer it, a short write would lose the rest."""
+    if sys.stdout is not None:
+        sys.stdout = open(sys.stdout.fileno(), "w", encoding=sys.stdout.encoding, closefd=False)
+
+
+def drop_output():
+    """Has standard output lose what it couldn't take, so that Python doesn't try again as it ends."""
+    with contextlib.suppress(OSError, ValueError, AttributeError), open(os.devnull, "wb") as nowhere:
+        os.dup2(nowhere.fileno(), sys.stdout.fileno())
+
+
 def reason_of(why):
     """The line that tells a user of a refusal, or of an error of a file, which is named."""
     if not isinstance(why, OSError) or why.filename is None:

@@ -241,6 +241,8 @@ def csv_texts(rows):
 
 def write_table(path, rows):
     """Writes rows to a .npy or CSV file, or without a path as CSV to standard output."""
+    if path is None and sys.stdout is None:
+        raise Refused("standard output is closed, and no file is named")
     if path is None:
         sys.stdout.writelines(csv_texts(rows))
     elif is_npy(path):
@@ -403,5 +405,5 @@ def write_run(table, folder, options):
     names = sorted(files)
     wrote = " and ".join(filter(None, (", ".join(names[:-1]), names[-1])))
     print("\n".join([f"{len(bodies)} bodies at time {options.at}; wrote {wrote}", *lines]))
-    if "params" in files and "grav" not in parameters:
+    if "params" in files and "grav" not in parameters and len(bodies) > 1:
         note_usual_grav(bodies.mass)

@@ -52,16 +52,28 @@ class Bodies(ToolTest):
         self.assertFalse(os.path.exists(self.path("run")))
 
     def test_one_body(self):
+        done = (0, "1 bodies at time 0; wrote init.nbs and params\n", "")
+        self.assertEqual(self.from_csv("id,mass,x,y,z,vx,vy,vz\n7,3,5,5,5,1,0,0\n"), done)
+        self.assertEqual(self.read("run/init.nbs"), bytes_of(ONE))
+        self.assertEqual(self.read("run/params"), USUAL.encode())
+        self.assertEqual(sorted(os.listdir(self.path("run"))), ["init.nbs", "params"])
+
+    def test_no_constant_of_gravity(self):
         # The root of 3 * 10^9 is 54772.3.
         note = (
             "bodies: grav is 1000000000, as neither --grav nor --units sets it: beyond 54772 box units all bodies "
             "together pull by less than 1 box unit a tick, which is no force\n"
         )
-        done = (0, "1 bodies at time 0; wrote init.nbs and params\n", note)
-        self.assertEqual(self.from_csv("id,mass,x,y,z,vx,vy,vz\n7,3,5,5,5,1,0,0\n"), done)
-        self.assertEqual(self.read("run/init.nbs"), bytes_of(ONE))
-        self.assertEqual(self.read("run/params"), USUAL.encode())
-        self.assertEqual(sorted(os.listdir(self.path("run"))), ["init.nbs", "params"])
+        done = (0, "2 bodies at time 0; wrote init.nbs and params\n", note)
+        text = "id,mass,x,y,z,vx,vy,vz\n7,1,5,5,5,1,0,0\n8,2,6,5,5,1,0,0\n"
+        self.assertEqual(self.from_csv(text), done)
+
+    def test_standard_output_is_closed(self):
+        self.from_csv("id,mass,x,y,z,vx,vy,vz\n7,3,5,5,5,1,0,0\n")
+        words = [sys.executable, os.path.join(TOOLS, "bodies"), "to", self.path("run/init.nbs")]
+        ran = subprocess.run(["sh", "-c", 'exec "$@" >&-', "sh", *words], stderr=subprocess.PIPE, text=True)
+        self.assertEqual(ran.returncode, 1)
+        self.assertEqual(ran.stderr, "bodies: standard output is closed, and no file is named\n")
 
     def test_there_and_back(self):
         self.assertEqual(self.from_csv(TWO_ROWS, "--grav", "1", "--at", "258")[0], 0)
