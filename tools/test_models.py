@@ -135,7 +135,8 @@ class Models(ToolTest):
 
     def test_the_example(self):
         """The bodies of examples/collapse are those of the command that its README names."""
-        self.assertEqual(self.run_tool("cold", "400", self.path("run"))[0], 0)
+        words = ("cold", "2000", self.path("run"), "--soft", "0.08", "--every", "2")
+        self.assertEqual(self.run_tool(*words)[0], 0)
         for name in ("init.nbs", "params"):
             with open(os.path.join(TOOLS, "..", "examples", "collapse", name), "rb") as file:
                 self.assertEqual(self.read(f"run/{name}"), file.read())
