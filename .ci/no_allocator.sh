@@ -20,7 +20,7 @@ cd "$work/crates/nb_tick" || exit 1
 cp src/leapfrog.rt tick
 
 # In place of the crate's tests, which call a tick as it is, one that only has the crate compiled.
-rm -r src/tests src/tests.rt proofs/tests
+rm -rf src/tests.rt proofs/tests
 cat >src/tests.rt <<'TEST'
 //! That the crate compiles.
 

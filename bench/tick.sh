@@ -47,6 +47,7 @@ const PAGE: u64 = 4096;
 const CELLS: u64 = 7;
 
 /// What a tick took.
+#[derive(Clone, Copy)]
 struct Taken {
     nanos: u128,
     reads: u64,
