@@ -15,7 +15,8 @@ from nbs import MOST_BODIES, POSITION, RANGES, USUAL, VELOCITY, Body, Refused, r
 
 NEEDED = ("mass", *POSITION, *VELOCITY)
 OPTIONAL = ("id", "out")
-UNITS = ("length", "mass", "time")
+# The options that say what one unit is, and the kind of each.
+UNITS = {"length": "length", "mass": "mass", "tick": "time"}
 PARAMETERS = ("grav", "theta", "soft", "leaf", "every", "edge")
 # A file of this size or more is read by numpy.
 BULK_BYTES = 2**20
@@ -290,7 +291,7 @@ def add_run_options(command):
     )
     units_of = command.add_argument_group("units, with --units; what isn't given is chosen")
     units_of.add_argument(
-        "--whole", action="store_true", help="in box units and ticks, also where units.json is"
+        "--box-units", action="store_true", help="in box units and ticks, also where units.json is"
     )
     units_of.add_argument(
         "--units", metavar="U", help="the table's: pc,Msun,km/s, say, or nbody where G is 1"
@@ -326,21 +327,25 @@ def given_in(options, names):
     return {name: getattr(options, name) for name in names if getattr(options, name) is not None}
 
 
-def scaled_run(rows, options):
+def scaled_run(rows, options, shrinks_to):
     """The bodies, the parameters that are set, the scale by the options, and the lines that tell of it."""
     table = units.table_of(options.units)
     parameters = given_in(options, PARAMETERS)
     if "grav" in parameters:
         raise Refused("--grav can't be set with --units, which find it")
-    given = {name: units.quantity(text, table, name) for name, text in given_in(options, UNITS).items()}
+    given = {
+        name: units.quantity(text, table, UNITS[name], name) for name, text in given_in(options, UNITS).items()
+    }
     theta = parameters.get("theta", USUAL["theta"])
     scale, grav, choice = units.fitted(table, rows, given, theta, options.orbit)
-    soft = parameters.get("soft", units.usual_soft(choice))
+    soft, soft_is = parameters.get("soft"), None
+    if soft is None:
+        soft, soft_is = units.usual_soft(choice, shrinks_to)
     if isinstance(soft, str):
         soft = max(1, round(units.quantity(soft, table, "length", "soft") / scale.length))
     if soft > RANGES["soft"][1]:
         raise Refused(f"--soft is {soft} box units, and has to be below the box's side")
-    lines = units.report_of(scale, grav, rows, choice, soft)
+    lines = units.report_of(scale, grav, rows, choice, soft, soft_is)
     return rows.boxed(scale), {**parameters, "grav": grav, "soft": soft}, scale, lines
 
 
@@ -350,8 +355,8 @@ def check_options(options, params, scale):
     if os.path.exists(params):
         if options.units or unit_options or given_in(options, PARAMETERS):
             raise Refused(f"{params} is there, so no option can set a parameter")
-    elif options.whole and options.units:
-        raise Refused("--whole numbers have no --units")
+    elif options.box_units and options.units:
+        raise Refused("--box-units are nbody's own, and have no --units")
     elif scale:
         raise Refused(
             f"{os.path.dirname(params)} has {units.FILE} but no params: remove it, or bring them back"
@@ -380,17 +385,17 @@ def note_usual_grav(mass):
     )
 
 
-def write_run(table, folder, options):
+def write_run(table, folder, options, shrinks_to=None):
     """Writes init.nbs, and where no parameters are there, params and with units units.json. The bodies are those of
-    the table, in whole numbers or by a scale."""
+    the table, in whole numbers or by a scale; `shrinks_to` is the part of their size to which they fall together."""
     check_folder(folder, options.replace)
     params = os.path.join(folder, "params")
     scale = units.scale_in(folder)
     check_options(options, params, scale)
     parameters, lines, new_scale = given_in(options, PARAMETERS), [], None
     if options.units:
-        bodies, parameters, new_scale, lines = scaled_run(table.decimal(), options)
-    elif scale and not options.whole:
+        bodies, parameters, new_scale, lines = scaled_run(table.decimal(), options, shrinks_to)
+    elif scale and not options.box_units:
         bodies = table.decimal().boxed(scale)
     else:
         bodies = table.whole()

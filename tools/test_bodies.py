@@ -17,7 +17,7 @@ ONE = """
 """
 
 # Two bodies at time 258. Body 1 has the mass 2^32 - 1, stands in a corner of the box and has the velocity
-# (-2, 0, 2^61 - 1). Body 2, of mass 1, has left the box with the velocity -2^63 on y, too fast for the box.
+# (-2, 0, 2^61 - 1). Body 2, of mass 1, is out, with the velocity -2^63 on y, too fast for the box.
 TWO = """
     464e42534e415031 0200000000000000 0201000000000000 0000000000000000
     0100000000000000 ffffffff00000000 ffffffffff000000 0000000000000000

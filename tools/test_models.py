@@ -3,11 +3,14 @@
 import csv
 import math
 import os
+import re
+import shutil
 import unittest
 
 from tool_test import TOOLS, ToolTest, tool
 
 import nbs
+import units
 
 
 class Models(ToolTest):
@@ -163,6 +166,40 @@ class Models(ToolTest):
             self.run_tool("plummer", "100", self.path("run"))[2].split(" ", 1)[1],
             f"{self.path('run')} is the folder of a run already\n",
         )
+
+    def softening(self, *words):
+        """The softening of a run in the table's units, and what is told of the choice."""
+        status, out, _ = self.run_tool(*words, self.path("run"))
+        self.assertEqual(status, 0)
+        soft = nbs.read_params(self.path("run/params"))["soft"]
+        told = re.search(f"softening: {soft} box units, ([0-9.e-]+)(?:, (.*))?\n", out)
+        length = units.scale_in(self.path("run")).length
+        self.assertAlmostEqual(float(told[1]) / (soft * length), 1, places=3)
+        shutil.rmtree(self.path("run"))
+        return soft * length, told[2]
+
+    def test_softening(self):
+        """Half of a sphere's mass is within 0.7937, where an orbit takes 2 pi, so in 300 ticks a tick is 0.020944. The
+        length s that is moved in one at the depth 1 / s is (2 * 0.020944^2)^(1/3) = 0.09573, however many bodies there
+        are, and in 1200 ticks 0.03799. Of 20 bodies a neighbour is at 0.7937 * (8 pi / 3 / 20)^(1/3) = 0.5938, and a
+        quarter of it is 0.1485. With 0.4 of the energy of its gravity a sphere shrinks to 2/3, where a body moves
+        sqrt(2 / (2/3 * 0.7937)) * 0.020944 = 0.04072 in a tick; with 0.5 it doesn't shrink, and in an orbit a body
+        moves sqrt(0.5 / 0.7937) * 0.020944 = 0.01662."""
+        fall = "what a body moves in a tick once all have fallen together"
+        for words, soft, told in (
+            ("cold 300", 0.09573, fall),
+            ("cold 20000", 0.09573, fall),
+            ("cold 20000 --orbit 1200", 0.03799, fall),
+            ("cold 20", 0.1485, "a quarter of the distance of neighbours"),
+            ("cold 20000 --virial 0.4", 0.04072, fall),
+            ("cold 20000 --virial 0.5", 0.01662, "what that orbit moves in a tick"),
+            ("disk 20", 0, "next to none around one heavy body"),
+            ("cold 300 --soft 0.25", 0.25, None),
+        ):
+            with self.subTest(words=words):
+                found, found_told = self.softening(*words.split())
+                self.assertAlmostEqual(found, soft, delta=0.1 * soft + 1e-6)
+                self.assertEqual(found_told, told)
 
     def test_refusals(self):
         for words, why in (

@@ -68,7 +68,7 @@ class Units(TableTest):
     def test_the_earths_orbit(self):
         """u is the distance over 2^24, m a thousandth of the sun, and a tick 103400 s, as in the README."""
         rows = [[1, 0, 0, 0, 0, 0, 0], [0.001, 1, 0, 0, 0, 0.0172021, 0]]
-        given = ("--length", "8916.7279m", "--mass", "0.001Msun", "--time", "103400s")
+        given = ("--length", "8916.7279m", "--mass", "0.001Msun", "--tick", "103400s")
         status, out, _ = self.from_rows(rows, "--units", "AU,Msun,AU/d", *given)
         self.assertEqual(status, 0)
         self.assertIn("a circular orbit there: 305 ticks", out)
@@ -96,9 +96,9 @@ class Units(TableTest):
     def test_newtons_constant(self):
         """What isn't given takes up the rounding of grav, here a thousandth or so; where all is given, nothing can."""
         for given, places in (
-            (["--time", "100kyr", "--mass", "5e-10Msun"], 9),
+            (["--tick", "100kyr", "--mass", "5e-10Msun"], 9),
             (["--length", "2e-4pc", "--orbit", "25", "--mass", "1e-6Msun"], 9),
-            (["--length", "2e-4pc", "--time", "0.85Myr", "--mass", "1e-7Msun"], 1),
+            (["--length", "2e-4pc", "--tick", "0.85Myr", "--mass", "1e-7Msun"], 1),
         ):
             with self.subTest(given=given):
                 self.assertEqual(self.from_stars(*given)[0], 0)
@@ -136,7 +136,7 @@ class Units(TableTest):
         """A parsec has 206264.806 AU, and over a kilometre a second it is 977.79222 kyr."""
         for name, text, found_in in (
             ("length", "0.05AU", lambda scale: scale.length * 206264.806 / 0.05),
-            ("time", "100kyr", lambda scale: scale.tick * 977.79222 / 100),
+            ("tick", "100kyr", lambda scale: scale.tick * 977.79222 / 100),
             ("mass", "1e-5Msun", lambda scale: scale.mass / 1e-5),
         ):
             with self.subTest(name=name):
@@ -162,9 +162,9 @@ class Units(TableTest):
         done = (0, "1000 bodies at time 0; wrote init.nbs\n", "")
         self.assertEqual(self.run_tool("from", self.path("again.csv"), self.path("run")), done)
         self.assertEqual(self.read("run/init.nbs"), before)
-        whole = self.run_tool("to", "--whole", self.path("run/init.nbs"))[1]
+        whole = self.run_tool("to", "--box-units", self.path("run/init.nbs"))[1]
         self.write("whole.csv", whole.encode())
-        self.assertEqual(self.run_tool("from", "--whole", self.path("whole.csv"), self.path("run")), done)
+        self.assertEqual(self.run_tool("from", "--box-units", self.path("whole.csv"), self.path("run")), done)
         self.assertEqual(self.read("run/init.nbs"), before)
         self.assertEqual(whole.splitlines()[1].split(",")[1:], [str(value) for value in self.bodies()[0][1:]])
 
@@ -231,7 +231,7 @@ class Units(TableTest):
         self.assertIn("rounding masses changes them by up to ", self.from_stars("--mass", "0.3Msun")[1])
         os.remove(self.path("run/params"))
         os.remove(self.path("run/units.json"))
-        given = ("--length", "2e-4pc", "--time", "0.85Myr", "--mass", "3e-8Msun")
+        given = ("--length", "2e-4pc", "--tick", "0.85Myr", "--mass", "3e-8Msun")
         out = self.from_stars(*given)[1]
         self.assertIn("rounding grav changes all forces by ", out)
         self.assertNotIn("rounding masses", out)
@@ -241,7 +241,7 @@ class Units(TableTest):
 
     def test_one_body(self):
         """Where nothing tells units, those that are given are taken."""
-        given = ("--length", "1AU", "--mass", "1Msun", "--time", "1yr")
+        given = ("--length", "1AU", "--mass", "1Msun", "--tick", "1yr")
         status, out, _ = self.from_rows([[1, 1, 2, 3, 4.74, 0, 0]], "--units", "AU,Msun,km/s", *given)
         # grav is 4 pi^2 / 2 = 19.74, and 4.74 km/s are an AU in a year.
         told = "rounding grav changes all forces by 1.3 %: by a larger --mass less"
@@ -259,38 +259,38 @@ class Units(TableTest):
 
     def test_a_choice_under_which_forces_vanish(self):
         self.assertRegex(
-            self.refuses("forces vanish", "--length", "1AU", "--time", "100yr"),
-            "--time has to be at least .*kyr",
+            self.refuses("forces vanish", "--length", "1AU", "--tick", "100yr"),
+            "--tick has to be at least .*kyr",
         )
         self.assertRegex(
-            self.refuses("forces vanish", "--length", "1pc", "--time", "1Myr"), "--length can be at most .*pc"
+            self.refuses("forces vanish", "--length", "1pc", "--tick", "1Myr"), "--length can be at most .*pc"
         )
         self.assertRegex(
-            self.refuses("forces vanish", "--time", "1yr"),
-            "the finest choice that is felt is --length .* with --time .*, or --orbit",
+            self.refuses("forces vanish", "--tick", "1yr"),
+            "the finest choice that is felt is --length .* with --tick .*, or --orbit",
         )
         self.assertRegex(
             self.refuses(
-                "forces vanish: grav is", "--length", "2e-4pc", "--time", "0.85Myr", "--mass", "5e-10Msun"
+                "forces vanish: grav is", "--length", "2e-4pc", "--tick", "0.85Myr", "--mass", "5e-10Msun"
             ),
             "grav .* rounds to 0: --mass has to be at least",
         )
 
     def test_what_a_refusal_advises_does(self):
         """Its limit, a little to the right side, is taken."""
-        why = self.refuses("forces vanish", "--length", "1AU", "--time", "100yr")
+        why = self.refuses("forces vanish", "--length", "1AU", "--tick", "100yr")
         least = float(re.search("at least ([0-9.]+)kyr", why).group(1))
-        self.refuses("forces vanish", "--length", "1AU", "--time", f"{0.99 * least}kyr")
-        self.assertEqual(self.from_stars("--length", "1AU", "--time", f"{1.01 * least}kyr")[0], 0)
+        self.refuses("forces vanish", "--length", "1AU", "--tick", f"{0.99 * least}kyr")
+        self.assertEqual(self.from_stars("--length", "1AU", "--tick", f"{1.01 * least}kyr")[0], 0)
 
     def test_limits(self):
-        why = self.refuses("grav times mass is", "--length", "0.001AU", "--time", "100kyr")
+        why = self.refuses("grav times mass is", "--length", "0.001AU", "--tick", "100kyr")
         time, length = re.search(
-            "--time can be at most ([0-9.]+)yr, or --length has to be at least ([0-9.e-]+)pc", why
+            "--tick can be at most ([0-9.]+)yr, or --length has to be at least ([0-9.e-]+)pc", why
         ).groups()
-        self.refuses("grav times mass is", "--length", "0.001AU", "--time", f"{1.01 * float(time)}yr")
-        self.refuses("grav times mass is", "--length", f"{0.99 * float(length)}pc", "--time", "100kyr")
-        self.refuses("a typical orbit takes", "--time", "1Gyr")
+        self.refuses("grav times mass is", "--length", "0.001AU", "--tick", f"{1.01 * float(time)}yr")
+        self.refuses("grav times mass is", "--length", f"{0.99 * float(length)}pc", "--tick", "100kyr")
+        self.refuses("a typical orbit takes", "--tick", "1Gyr")
         self.refuses(
             "the lightest body has less than half a unit of mass: --mass can be at most", "--mass", "10Msun"
         )
@@ -328,11 +328,11 @@ class Units(TableTest):
 
     def test_bad_options(self):
         self.refuses("--length '3Msun' is no length", "--length", "3Msun")
-        self.refuses("--time '-3yr' is no time", "--time=-3yr")
+        self.refuses("--tick '-3yr' is no time", "--tick=-3yr")
         self.refuses("--mass '0Msun' is no mass", "--mass", "0Msun")
         self.refuses("--grav can't be set with --units", "--grav", "5")
-        self.refuses("--time and --orbit both say how long a tick is", "--time", "100kyr", "--orbit", "100")
-        self.refuses("--whole numbers have no --units", "--whole")
+        self.refuses("--tick and --orbit both say how long a tick is", "--tick", "100kyr", "--orbit", "100")
+        self.refuses("--box-units are nbody's own, and have no --units", "--box-units")
         self.assertIn("'furlong' is no unit", self.from_rows(cluster(9), "--units", "furlong")[2])
         self.assertIn(
             "--length '1pc' is no length, a number alone",

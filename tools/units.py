@@ -252,6 +252,13 @@ class Choice:
         """Of a typical orbit, in box units a tick."""
         return math.sqrt(2 * self.kick * self.radius)
 
+    def fall(self, shrinks_to):
+        """What a body moves in a tick where all mass has fallen together, to this part of its size or as far as a
+        softening of that very length lets it. Its speed at the radius r is sqrt(2 G M / r), and G M is 2 gm."""
+        least = (4 * self.gm) ** (1 / 3)
+        radius = shrinks_to * self.radius
+        return least if radius <= least else math.sqrt(4 * self.gm / radius)
+
     @property
     def loss(self):
         """The part of its force that a typical orbit loses. A pull loses half a unit on an axis, and has half of its
@@ -280,9 +287,9 @@ def chosen(table, system, length, time, orbit_ticks):
     """
     gravity = gravity_of(table)
     if time and orbit_ticks:
-        raise Refused("--time and --orbit both say how long a tick is: set one of them")
+        raise Refused("--tick and --orbit both say how long a tick is: set one of them")
     if system.radius == 0 and not (length and time):
-        raise Refused("no two bodies are apart, so no force tells units: set --length, --mass and --time")
+        raise Refused("no two bodies are apart, so no force tells units: set --length, --mass and --tick")
     first = Choice(gravity, system, length or system.radius, time or 1.0)
     if time is None:
         fewest, most = ORBIT_TICKS
@@ -316,7 +323,7 @@ def check_forces(table, choice):
     system = choice.system
     if choice.gm >= GM_LIMIT * (1 + 1e-9):
         raise Refused(
-            f"grav times mass is {choice.gm:.3g}, and not below 2^60: --time can be at most "
+            f"grav times mass is {choice.gm:.3g}, and not below 2^60: --tick can be at most "
             f"{shown(choice.most_time(), table, 'time')}, or --length has to be at least "
             f"{shown(choice.least_length(), table, 'length')}"
         )
@@ -326,7 +333,7 @@ def check_forces(table, choice):
         why = f"forces vanish: a typical pull is {choice.pull:.2g} box units a tick, and cut to 0: "
         longer = choice.at(time=choice.time / math.sqrt(choice.pull))
         if longer.time <= choice.most_time() and longer.orbit_ticks >= FEWEST_TICKS:
-            raise Refused(f"{why}--time has to be at least {shown(longer.time, table, 'time')}")
+            raise Refused(f"{why}--tick has to be at least {shown(longer.time, table, 'time')}")
         shorter = choice.length * choice.pull
         if shorter >= choice.least_length():
             raise Refused(f"{why}--length can be at most {shown(shorter, table, 'length')}")
@@ -336,13 +343,13 @@ def check_forces(table, choice):
         finest = least.at(time=0.999 * least.most_time())
         raise Refused(
             f"{why}the finest choice that is felt is --length {shown(finest.length, table, 'length')} "
-            f"with --time {shown(finest.time, table, 'time')}, or --orbit {math.floor(finest.orbit_ticks)}"
+            f"with --tick {shown(finest.time, table, 'time')}, or --orbit {math.floor(finest.orbit_ticks)}"
         )
     if choice.orbit_ticks < FEWEST_TICKS:
         most = choice.time * choice.orbit_ticks / FEWEST_TICKS
         raise Refused(
             f"a typical orbit takes {choice.orbit_ticks:.2g} ticks, fewer than {FEWEST_TICKS}: "
-            f"--time can be at most {shown(most, table, 'time')}"
+            f"--tick can be at most {shown(most, table, 'time')}"
         )
 
 
@@ -367,10 +374,10 @@ def check_masses(table, system, mass, grav):
 
 
 def fitted(table, rows, given, theta, orbit_ticks):
-    """The scale, grav and the choice for rows of bodies. `given` has the length, mass and time of options."""
+    """The scale, grav and the choice for rows of bodies. `given` has the length, mass and tick of options."""
     try:
         system = system_of(rows, theta)
-        choice = chosen(table, system, given.get("length"), given.get("time"), orbit_ticks)
+        choice = chosen(table, system, given.get("length"), given.get("tick"), orbit_ticks)
         return scaled(table, rows, given, choice)
     except (OverflowError, ZeroDivisionError):
         raise Refused("masses, positions or units are too large or too small to choose by") from None
@@ -385,7 +392,7 @@ def scaled(table, rows, given, choice):
     check_masses(table, system, mass, exact)
     grav = min(max(1, round(exact)), (GM_LIMIT - 1) // rows.whole_mass(mass))
     # What isn't given takes up the rounding of grav, so that none is left.
-    if "time" not in given:
+    if "tick" not in given:
         choice = choice.at(time=choice.time * math.sqrt(grav / exact))
     elif "length" not in given:
         choice = choice.at(length=choice.length * (exact / grav) ** (1 / 3))
@@ -393,14 +400,15 @@ def scaled(table, rows, given, choice):
     return scale, grav, choice
 
 
-def report_of(scale, grav, rows, choice, soft):
-    """What a user wants to know of a choice of units, in lines."""
+def report_of(scale, grav, rows, choice, soft, soft_is=None):
+    """What a user wants to know of a choice of units, in lines. `soft_is` says how the softening was chosen."""
     table, system = scale.table, choice.system
     length = shown(scale.length, table, "length")
-    mass, time = shown(scale.mass, table, "mass"), shown(scale.tick, table, "time")
+    mass, tick = shown(scale.mass, table, "mass"), shown(scale.tick, table, "time")
     gm = grav * rows.whole_mass(scale.mass)
+    softening = f"softening: {soft} box units, {shown(soft * scale.length, table, 'length')}"
     lines = [
-        f"one unit: --length {length} --mass {mass} --time {time}",
+        f"one unit: --length {length} --mass {mass} --tick {tick}",
         f"box: {shown(scale.length * nbs.BOX_SIDE, table, 'length')} across",
         f"grav: {grav}, and times the mass of all {gm / GM_LIMIT:.3g} * 2^60",
     ]
@@ -413,11 +421,11 @@ def report_of(scale, grav, rows, choice, soft):
             f"a circular orbit there: {choice.orbit_ticks:.0f} ticks, {choice.speed:.4g} box units a tick",
             f"its half kick: {choice.kick:.4g} box units a tick, of pulls of about {choice.pull:.3g}",
             f"rounding: pulls are cut, and a tick loses about {kick * loss:.2g} of {kick:.4g}, {100 * loss:.2g} %",
-            f"softening: {soft} box units, {shown(soft * scale.length, table, 'length')}",
+            f"{softening}, {soft_is}" if soft_is else softening,
         ]
         if loss > BAD_LOSS:
             lines.append(
-                "that is much: longer ticks lose less (--time, --orbit), and so does a larger --theta"
+                "that is much: longer ticks lose less (--tick, --orbit), and so does a larger --theta"
             )
     error = grav / (choice.gm * scale.mass / system.mass) - 1
     if abs(error) > BAD_ROUNDING:
@@ -428,13 +436,23 @@ def report_of(scale, grav, rows, choice, soft):
     return lines
 
 
-def usual_soft(choice):
-    """What a typical orbit moves in a tick, so that bodies don't pass unresolved, or a quarter of the distance of
-    neighbours within the half-mass radius, where that is more; none around one heavy body."""
-    if choice.system.is_led or choice.system.radius == 0:
-        return 1
+def usual_soft(choice, shrinks_to):
+    """The softening in box units, and how it was chosen: what a typical orbit moves in a tick, so that bodies don't
+    pass unresolved, or a quarter of the distance of neighbours within the half-mass radius, where that is more; none
+    around one heavy body. Bodies that fall together, to a part of their size that is given, are fastest there."""
+    if choice.system.is_led:
+        return 1, "next to none around one heavy body"
+    if choice.system.radius == 0:
+        return 1, None
     apart = choice.radius * (8 * math.pi / 3 / choice.system.count) ** (1 / 3)
-    return max(1, round(max(choice.speed, apart / 4)))
+    lengths = [
+        (choice.speed, "what that orbit moves in a tick"),
+        (apart / 4, "a quarter of the distance of neighbours"),
+    ]
+    if shrinks_to is not None:
+        lengths.append((choice.fall(shrinks_to), "what a body moves in a tick once all have fallen together"))
+    soft, soft_is = max(lengths)
+    return max(1, round(soft)), soft_is
 
 
 def nearest(value):
