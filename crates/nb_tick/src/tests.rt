@@ -121,29 +121,36 @@ fn tick_once<H: Host>(
     )?)
 }
 
-/// Two bodies at rest, a tick on and back again: what each tick answers, and what its slot holds then.
+/// The pair at rest with these places on the first axis, a tick on and back again: what each tick answers, and
+/// what its slot holds then.
 fn there_and_back(
     alloc: Global,
     pages: usize,
+    walks: usize,
     known: bool,
+    edge: Edge,
+    places: [u64; 2],
 ) -> Result<(u64, [KickedBody; 2], u64, [KickedBody; 2]), Fail>
     requires least { 4 ≤ pages }
     requires most { pages ≤ 2 ^ 18 }
+    requires some_walks { 1 ≤ walks }
+    requires few_walks { walks ≤ 1024 }
 {
     let mut host = MemoryHost::new(alloc);
     let mut cache = Cache::new(alloc, pages)?;
-    let params = params(Edge::Open);
+    let params = params(edge);
+    let [light, heavy] = places;
     put(
         &mut host,
         &mut cache,
         0,
-        &one_of_pair(1, 1, MIDDLE, 0, 0).body,
+        &one_of_pair(1, 1, light, 0, 0).body,
     )?;
     put(
         &mut host,
         &mut cache,
         1,
-        &one_of_pair(2, 1000, MIDDLE + 1000, 0, 0).body,
+        &one_of_pair(2, 1000, heavy, 0, 0).body,
     )?;
     cache.flush(&mut host)?;
     let on = tick_once(
@@ -155,7 +162,7 @@ fn there_and_back(
         2,
         Way::Forward,
         false,
-        1,
+        walks,
     )?;
     let odd = pair_in(&mut host, &mut cache, Slot::Odd)?;
     cache.flush(&mut host)?;
@@ -168,23 +175,40 @@ fn there_and_back(
         2,
         Way::Back,
         known,
-        1,
+        walks,
     )?;
     let even = pair_in(&mut host, &mut cache, Slot::Even)?;
     Ok((on, odd, back, even))
 }
 
-/// What a tick answers for a body at the border of the box that moves across it, and the body then.
-fn across_the_border(alloc: Global, edge: Edge) -> Result<(u64, Body), Fail> {
+/// A body with nothing that pulls it.
+fn alone(at: At, v: i64, out: bool) -> Body {
+    Body {
+        id: 7,
+        mass: 3,
+        out,
+        at,
+        v: along(v),
+    }
+}
+
+/// What a tick answers for one body, and the body then.
+fn alone_after(
+    alloc: Global,
+    pages: usize,
+    walks: usize,
+    edge: Edge,
+    body: &Body,
+) -> Result<(u64, Body), Fail>
+    requires least { 4 ≤ pages }
+    requires most { pages ≤ 2 ^ 18 }
+    requires some_walks { 1 ≤ walks }
+    requires few_walks { walks ≤ 1024 }
+{
     let mut host = MemoryHost::new(alloc);
-    let mut cache = Cache::new(alloc, 4)?;
+    let mut cache = Cache::new(alloc, pages)?;
     let params = params(edge);
-    put(
-        &mut host,
-        &mut cache,
-        0,
-        &at_the_border((1 << 40) - 1, false),
-    )?;
+    put(&mut host, &mut cache, 0, body)?;
     cache.flush(&mut host)?;
     let out = tick_once(
         alloc,
@@ -195,20 +219,10 @@ fn across_the_border(alloc: Global, edge: Edge) -> Result<(u64, Body), Fail> {
         1,
         Way::Forward,
         false,
-        1,
+        walks,
     )?;
     let found = kicked_at(&mut host, &mut cache, Slot::Odd.file(), 0)?;
     Ok((out, found.body))
-}
-
-fn at_the_border(x: u64, out: bool) -> Body {
-    Body {
-        id: 7,
-        mass: 3,
-        out,
-        at: At { x, y: 0, z: 0 },
-        v: along(1),
-    }
 }
 
 /// Adds bodies at one place, at rest, to the slot of an even number of ticks. None pulls another, so the half
@@ -266,6 +280,7 @@ fn a_tick_with_known_kicks_reads_less(rt: HostRuntime) -> Result<(), Fail> {
 
 #[test]
 fn a_tick_there_and_back(rt: HostRuntime) -> Result<(), Fail> {
+    let places = [MIDDLE, MIDDLE + 1000];
     let on = [
         one_of_pair(2, 1000, 549_755_813_889, -999, 0),
         one_of_pair(1, 1, 549_756_813_887, 999_998, -1),
@@ -274,21 +289,74 @@ fn a_tick_there_and_back(rt: HostRuntime) -> Result<(), Fail> {
         one_of_pair(1, 1, MIDDLE, 0, 999_999),
         one_of_pair(2, 1000, MIDDLE + 1000, 0, -999),
     ];
-    assert_eq!(rt; there_and_back(rt.alloc(), 4, true)?, (0, on, 0, back));
-    assert_eq!(rt; there_and_back(rt.alloc(), 256, false)?, (0, on, 0, back));
+    let want = (0, on, 0, back);
+    assert_eq!(rt;
+        there_and_back(rt.alloc(), 4, 1, true, Edge::Open, places)?,
+        want
+    );
+    assert_eq!(rt;
+        there_and_back(rt.alloc(), 256, 64, false, Edge::Open, places)?,
+        want
+    );
+    Ok(())
+}
+
+#[test]
+fn a_pair_meets_across_the_border(rt: HostRuntime) -> Result<(), Fail> {
+    let places = [0, 1_099_511_626_776];
+    let on = [
+        one_of_pair(1, 1, 1_099_510_627_777, -999_998, 1),
+        one_of_pair(2, 1000, 1_099_511_627_775, 999, 0),
+    ];
+    let back = [
+        one_of_pair(1, 1, 0, 0, -999_999),
+        one_of_pair(2, 1000, 1_099_511_626_776, 0, 999),
+    ];
+    let want = (0, on, 0, back);
+    assert_eq!(rt;
+        there_and_back(rt.alloc(), 4, 1, true, Edge::Wrap, places)?,
+        want
+    );
+    assert_eq!(rt;
+        there_and_back(rt.alloc(), 256, 64, false, Edge::Wrap, places)?,
+        want
+    );
     Ok(())
 }
 
 #[test]
 fn a_body_crosses_the_border(rt: HostRuntime) -> Result<(), Fail> {
-    let corner = (1 << 40) - 1;
-    assert_eq!(rt;
-        across_the_border(rt.alloc(), Edge::Open)?,
-        (1, at_the_border(corner, true))
-    );
-    assert_eq!(rt;
-        across_the_border(rt.alloc(), Edge::Wrap)?,
-        (0, at_the_border(0, false))
-    );
+    let side = 1_099_511_627_776;
+    let corner = At {
+        x: 1_099_511_627_775,
+        y: 0,
+        z: 0,
+    };
+    let origin = At { x: 0, y: 0, z: 0 };
+    let fives = At { x: 5, y: 5, z: 5 };
+    let below = At { x: 4, y: 5, z: 5 };
+    let above = At { x: 6, y: 5, z: 5 };
+    let rows = [
+        (Edge::Open, corner, 1, 1, corner),
+        (Edge::Wrap, corner, 1, 0, origin),
+        (Edge::Wrap, fives, side, 1, fives),
+        (Edge::Wrap, fives, side - 1, 0, below),
+        (Edge::Wrap, fives, -side, 1, fives),
+        (Edge::Wrap, fives, 1 - side, 0, above),
+    ];
+    for (edge, from, v, out, to) in rows {
+        let body = alone(from, v, false);
+        let want = (out, alone(to, v, out == 1));
+        assert_eq!(rt;
+            alone_after(rt.alloc(), 4, 1, edge, &body)?,
+            want,
+            "at velocity {v}"
+        );
+        assert_eq!(rt;
+            alone_after(rt.alloc(), 256, 64, edge, &body)?,
+            want,
+            "at velocity {v}"
+        );
+    }
     Ok(())
 }
