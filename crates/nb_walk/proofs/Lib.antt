@@ -12,9 +12,24 @@ mod Remaining
 mod Tallies
 mod Takes
 mod Walking
+mod Visits
+mod Sharing
+mod Parts
+mod Bits
+mod Meetings
+mod Passes
+mod Rounds
+mod Joins
+mod Endings
 mod Runs
+mod Blocks
+mod OwnRuns
+mod SharedLooks
+mod Outcomes
 mod Names
+mod Waits
 mod Pools
+mod HandingOut
 mod OnTheirWay
 mod WantedPages
 pub mod Callers

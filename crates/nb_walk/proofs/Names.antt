@@ -1,5 +1,5 @@
--- Names of pages in their order, each once, and the names that walks need.
-use Rattle.std.proofs.Common.{◌≡◌, zero, suc, ◌<◌, ◌↔◌, eqb, Bool, true, ◌&&◌, List, [], ◌∷◌, ◌++◌, Some, Ordering, Less, Equal, Greater, sym, ap, ◌∙◌, refl, arith, subst, inl, inr}
+-- Names of pages in their order, each once, and the names of those that walks need.
+use Rattle.std.proofs.Common.{◌≡◌, zero, suc, ◌<◌, ◌↔◌, eqb, Bool, true, ◌&&◌, List, [], ◌∷◌, ◌++◌, length, None, Some, Ordering, Less, Equal, Greater, sym, ap, ◌∙◌, refl, arith, subst, inl, inr}
 use Rattle.std.specs.Prelude.{◌⊎◌, Contains}
 use Rattle.std.specs.List.{AllByRecursion}
 use Rattle.std.specs.List.Sorted.{IsStrictlySortedBy}
@@ -10,10 +10,10 @@ use Rattle.std.proofs.lemmas.Cmp.{nat_cmp_total, on_total, then_total, ranked, o
 use Rattle.nb_host.specs.declared.page_name.PageName.{PageName}
 use Rattle.nb_host.specs.Page.{IsBefore, IsRising}
 use Rattle.nb_record.specs.declared.tree.Tree.{Tree}
+use Rattle.nb_walk.specs.declared.group.Own.{Own}
 use Rattle.nb_walk.specs.declared.item.Item.{Item}
-use Rattle.nb_walk.specs.Items.{last_item, page_for}
-use Rattle.nb_walk.specs.Walk.{WalkValue}
-use Rattle.nb_walk.specs.Running.{IsNext}
+use Rattle.nb_walk.specs.Group.{SomeNeed}
+use Rattle.nb_walk.specs.Items.{page_for}
 
 abbrev pub by_name : PageName → PageName → Ordering
 by_name x y = ordering_then (nat_cmp x.file y.file) (nat_cmp x.page y.page)
@@ -56,71 +56,78 @@ same_name_equiv = and_equiv (on_equiv (λ (p : PageName). p.file) nat_eq_equiv) 
 
 -- ---- the names that walks need
 
--- the page is that of the walk's last item
-pub record IsOwn (tree : Tree) (w : WalkValue) (name : PageName) : Type 0 where
+-- the page is that of the item at which the walk waits
+pub record IsNeedOf (tree : Tree) (o : Own) (name : PageName) : Type 0 where
   pub item : Item
-  pub last : last_item w.items ≡ Some item
+  pub need : o.need ≡ Some item
   pub page : page_for tree item ≡ name
 
 only_one : {X : Type 0} (x y : X) → Contains (x ∷ []) y → x ≡ y
 only_one x y (zero, within, is) = is
 only_one x y (suc k, within, is) = absurd (omega arith)
 
-module _ (tree : Tree) (ws : List WalkValue) (w : WalkValue) (name : PageName) where
-  pub next_cases : IsNext tree (ws ++ w ∷ []) name → IsNext tree ws name ⊎ IsOwn tree w name
-  next_cases next = elim (Contains-append_cases ws (w ∷ []) next.walk next.there) [
-    | inl before ↦ inl (record { walk = next.walk; there = before; item = next.item; last = next.last; page = next.page })
-    | inr end ↦ inr (record { item = next.item; last = subst (λ v. last_item v.items ≡ Some next.item) (sym (only_one w next.walk end)) next.last; page = next.page })
+module _ (tree : Tree) (owns : List Own) (o : Own) (name : PageName) where
+  need_cases : SomeNeed tree (owns ++ o ∷ []) name → SomeNeed tree owns name ⊎ IsNeedOf tree o name
+  need_cases some = elim (Contains-append_cases owns (o ∷ []) some.own some.there) [
+    | inl before ↦ inl (record { own = some.own; there = before; item = some.item; need = some.need; page = some.page })
+    | inr end ↦ inr (record { item = some.item; need = subst (λ (v : Own). v.need ≡ Some some.item) (sym (only_one o some.own end)) some.need; page = some.page })
   ]
 
-  pub next_kept : IsNext tree ws name → IsNext tree (ws ++ w ∷ []) name
-  next_kept next = record { walk = next.walk; there = Contains-append_left ws (w ∷ []) next.walk next.there; item = next.item; last = next.last; page = next.page }
+  need_kept : SomeNeed tree owns name → SomeNeed tree (owns ++ o ∷ []) name
+  need_kept some = record { own = some.own; there = Contains-append_left owns (o ∷ []) some.own some.there; item = some.item; need = some.need; page = some.page }
 
-  pub next_own : IsOwn tree w name → IsNext tree (ws ++ w ∷ []) name
-  next_own own = record { walk = w; there = Contains-append_right ws (w ∷ []) w (0, omega arith, refl); item = own.item; last = own.last; page = own.page }
+  need_last : IsNeedOf tree o name → SomeNeed tree (owns ++ o ∷ []) name
+  need_last its = record { own = o; there = Contains-append_right owns (o ∷ []) o (0, omega arith, refl); item = its.item; need = its.need; page = its.page }
 
-pub name_cases : (names : List PageName) (last name : PageName) → Contains (names ++ last ∷ []) name → Contains names name ⊎ (last ≡ name)
+name_cases : (names : List PageName) (last name : PageName) → Contains (names ++ last ∷ []) name → Contains names name ⊎ (last ≡ name)
 name_cases names last name there = elim (Contains-append_cases names (last ∷ []) name there) [
   | inl before ↦ inl before
   | inr end ↦ inr (only_one last name end)
 ]
 
-pub name_kept : (names : List PageName) (last name : PageName) → Contains names name → Contains (names ++ last ∷ []) name
+name_kept : (names : List PageName) (last name : PageName) → Contains names name → Contains (names ++ last ∷ []) name
 name_kept names last name there = Contains-append_left names (last ∷ []) name there
 
-pub name_last : (names : List PageName) (last : PageName) → Contains (names ++ last ∷ []) last
+name_last : (names : List PageName) (last : PageName) → Contains (names ++ last ∷ []) last
 name_last names last = Contains-append_right names (last ∷ []) last (0, omega arith, refl)
 
-own_is : (tree : Tree) (w : WalkValue) (a b : PageName) → IsOwn tree w a → IsOwn tree w b → a ≡ b
-own_is tree w a b one two =
-    let same : one.item ≡ two.item = let both = sym one.last ∙ two.last in cc in
+its_name : (tree : Tree) (o : Own) (a b : PageName) → IsNeedOf tree o a → IsNeedOf tree o b → a ≡ b
+its_name tree o a b one two =
+    let same : one.item ≡ two.item = let both = sym one.need ∙ two.need in cc in
     sym one.page ∙ ap (page_for tree) same ∙ two.page
 
 -- one walk more, whose page is named
-pub names_more : (tree : Tree) (xs ys : List WalkValue) (w : WalkValue) (names now : List PageName) (last : PageName) → ys ≡ xs ++ w ∷ [] → now ≡ names ++ last ∷ [] → IsOwn tree w last
-    → ((name : PageName) → Contains names name ↔ IsNext tree xs name) → (name : PageName) → Contains now name ↔ IsNext tree ys name
-names_more tree xs ys w names now last more is own before name =
-    subst (λ l. Contains l name ↔ IsNext tree ys name) (sym is)
-    (subst (λ l. Contains (names ++ last ∷ []) name ↔ IsNext tree l name) (sym more) (
+pub names_more : (tree : Tree) (xs ys : List Own) (o : Own) (names now : List PageName) (last : PageName) → ys ≡ xs ++ o ∷ [] → now ≡ names ++ last ∷ [] → IsNeedOf tree o last
+    → ((name : PageName) → Contains names name ↔ SomeNeed tree xs name) → (name : PageName) → Contains now name ↔ SomeNeed tree ys name
+names_more tree xs ys o names now last more is its before name =
+    subst (λ l. Contains l name ↔ SomeNeed tree ys name) (sym is)
+    (subst (λ l. Contains (names ++ last ∷ []) name ↔ SomeNeed tree l name) (sym more) (
       λ there. elim (name_cases names last name there) [
-        | inl old ↦ next_kept tree xs w name ((before name).0 old)
-        | inr same ↦ next_own tree xs w name (subst (IsOwn tree w) same own)
+        | inl old ↦ need_kept tree xs o name ((before name).0 old)
+        | inr same ↦ need_last tree xs o name (subst (IsNeedOf tree o) same its)
       ],
-      λ next. elim (next_cases tree xs w name next) [
+      λ some. elim (need_cases tree xs o name some) [
         | inl old ↦ name_kept names last name ((before name).1 old)
-        | inr its ↦ subst (Contains (names ++ last ∷ [])) (own_is tree w last name own its) (name_last names last)
+        | inr other ↦ subst (Contains (names ++ last ∷ [])) (its_name tree o last name its other) (name_last names last)
       ],
     ))
 
--- one walk more, which needs none
-pub names_same : (tree : Tree) (xs ys : List WalkValue) (w : WalkValue) (names now : List PageName) → ys ≡ xs ++ w ∷ [] → now ≡ names → w.items ≡ []
-    → ((name : PageName) → Contains names name ↔ IsNext tree xs name) → (name : PageName) → Contains now name ↔ IsNext tree ys name
-names_same tree xs ys w names now more is none before name =
-    subst (λ l. Contains l name ↔ IsNext tree ys name) (sym is)
-    (subst (λ l. Contains names name ↔ IsNext tree l name) (sym more) (
-      λ there. next_kept tree xs w name ((before name).0 there),
-      λ next. elim (next_cases tree xs w name next) [
+-- one walk more, which waits nowhere
+pub names_same : (tree : Tree) (xs ys : List Own) (o : Own) (names now : List PageName) → ys ≡ xs ++ o ∷ [] → now ≡ names → o.need ≡ None
+    → ((name : PageName) → Contains names name ↔ SomeNeed tree xs name) → (name : PageName) → Contains now name ↔ SomeNeed tree ys name
+names_same tree xs ys o names now more is none before name =
+    subst (λ l. Contains l name ↔ SomeNeed tree ys name) (sym is)
+    (subst (λ l. Contains names name ↔ SomeNeed tree l name) (sym more) (
+      λ there. need_kept tree xs o name ((before name).0 there),
+      λ some. elim (need_cases tree xs o name some) [
         | inl old ↦ (before name).1 old
-        | inr its ↦ absurd (let no = subst (λ l. last_item l ≡ Some its.item) none its.last in cc)
+        | inr its ↦ absurd (let both = sym none ∙ its.need in cc)
       ],
     ))
+
+-- no walk
+pub names_none : (tree : Tree) (owns : List Own) (names : List PageName) → owns ≡ [] → names ≡ [] → (name : PageName) → Contains names name ↔ SomeNeed tree owns name
+names_none tree owns names no_owns no_names name = (
+  λ there. absurd (let within = there.1 in omega (arith, ap length no_names)),
+  λ some. absurd (let within = some.there.1 in omega (arith, ap length no_owns)),
+)

@@ -1,101 +1,74 @@
--- Walks of a list, one after the other.
-use Rattle.std.proofs.Common.{◌≡◌, ℕ, zero, suc, ◌+◌, ◌<◌, ◌≤◌, Bool, Result, List, [], ◌∷◌, Option, length, get_or, set, get_or-set_other, get_or-set_same, sym, ◌∙◌, refl, arith, subst, inl, inr}
-use Rattle.std.specs.Prelude.{◌≢◌, ◌⊎◌}
+-- The elements of a list, one after the other, before and after.
+use Rattle.std.proofs.Common.{◌≡◌, ℕ, zero, suc, ◌+◌, ◌<◌, ◌≤◌, List, [], ◌∷◌, length, get_or, set, get_or-set_other, get_or-set_same, sym, ◌∙◌, refl, arith, subst, inl, inr}
+use Rattle.std.specs.Prelude.{◌≢◌}
 use Rattle.std.proofs.lemmas.Bool.{cases_lt}
-use Rattle.nb_model.specs.declared.params.Params.{Params}
-use Rattle.nb_host.specs.declared.page_name.PageName.{PageName}
-use Rattle.nb_record.specs.declared.tree.Tree.{Tree}
-use Rattle.nb_walk.specs.Left.{step_bound}
-use Rattle.nb_host.specs.declared.page_name.PageName.{PageName}
-use Rattle.nb_walk.specs.Shown.{LooksAt}
-use Rattle.nb_walk.specs.Walk.{WalkValue, IsInRange, IsWithin, OnTree, IsBlocked, CanVisit, RunsTree}
-use Rattle.nb_walk.specs.Running.{HasRun, HasSettled, Each, OneWaits}
-use Rattle.nb_walk.specs.Pool.{BlamesOne}
+use Rattle.nb_walk.specs.Running.{EachAt}
 
 -- ---- one element of a list at a time
 
-pub each_none : (R : WalkValue → WalkValue → Type 0) (old now : List WalkValue) → Each R 0 old now
+pub each_none : {A : Type 0} (R : ℕ → A → A → Type 0) (old now : List A) → EachAt R 0 old now
 each_none R old now k d below = absurd (omega arith)
 
-pub each_more : (R : WalkValue → WalkValue → Type 0) (old now : List WalkValue) (i : ℕ) (w : WalkValue) → Each R i old now → i < length now → ((d : WalkValue) → R (get_or old i d) w) → Each R (i + 1) old (set now i w)
+pub each_more : {A : Type 0} (R : ℕ → A → A → Type 0) (old now : List A) (i : ℕ) (w : A) → EachAt R i old now → i < length now → ((d : A) → R i (get_or old i d) w) → EachAt R (i + 1) old (set now i w)
 each_more R old now i w each within own k d below = elim (cases_lt k i) [
   | inl before ↦
       let other : k ≢ i = omega arith in
-      subst (R (get_or old k d)) (sym (get_or-set_other now i k w d other)) (each k d before)
+      subst (R k (get_or old k d)) (sym (get_or-set_other now i k w d other)) (each k d before)
   | inr from ↦
       let same : k ≡ i = omega arith in
-      subst (λ j. R (get_or old j d) (get_or (set now i w) j d)) (sym same) (subst (R (get_or old i d)) (sym (get_or-set_same now i w d within)) (own d))
+      subst (λ j. R j (get_or old j d) (get_or (set now i w) j d)) (sym same) (subst (R i (get_or old i d)) (sym (get_or-set_same now i w d within)) (own d))
 ]
 
--- from an index on the walks are as they were
-abbrev pub SameFrom : ℕ → List WalkValue → List WalkValue → Type 0
-SameFrom from old now = (k : ℕ) (d : WalkValue) → from ≤ k → get_or now k d ≡ get_or old k d
+-- the same without a change of the list
+pub each_stays : {A : Type 0} (R : ℕ → A → A → Type 0) (old now : List A) (i : ℕ) → EachAt R i old now → ((d : A) → R i (get_or old i d) (get_or now i d)) → EachAt R (i + 1) old now
+each_stays R old now i each own k d below = elim (cases_lt k i) [
+  | inl before ↦ each k d before
+  | inr from ↦
+      let same : k ≡ i = omega arith in
+      subst (λ j. R j (get_or old j d) (get_or now j d)) (sym same) (own d)
+]
 
-pub same_more : (old now : List WalkValue) (i : ℕ) (w : WalkValue) → SameFrom i old now → SameFrom (i + 1) old (set now i w)
+-- from an index on the elements are as they were
+abbrev pub SameFrom : {A : Type 0} → ℕ → List A → List A → Type 0
+SameFrom {A} from old now = (k : ℕ) (d : A) → from ≤ k → get_or now k d ≡ get_or old k d
+
+pub same_more : {A : Type 0} (old now : List A) (i : ℕ) (w : A) → SameFrom i old now → SameFrom (i + 1) old (set now i w)
 same_more old now i w same k d from =
     let other : k ≢ i = omega arith in
     get_or-set_other now i k w d other ∙ same k d (omega arith)
 
-pub each_all : (R : WalkValue → WalkValue → Type 0) (old now : List WalkValue) (i n : ℕ) → Each R i old now → SameFrom i old now → ((k : ℕ) (d : WalkValue) → k < n → R (get_or old k d) (get_or old k d)) → Each R n old now
+pub same_later : {A : Type 0} (old now : List A) (i : ℕ) → SameFrom i old now → SameFrom (i + 1) old now
+same_later old now i same k d from = same k d (omega arith)
+
+pub each_all : {A : Type 0} (R : ℕ → A → A → Type 0) (old now : List A) (i n : ℕ) → EachAt R i old now → SameFrom i old now → ((k : ℕ) (d : A) → i ≤ k → k < n → R k (get_or old k d) (get_or old k d)) → EachAt R n old now
 each_all R old now i n each same still k d below = elim (cases_lt k i) [
   | inl before ↦ each k d before
-  | inr from ↦ subst (R (get_or old k d)) (sym (same k d from)) (still k d below)
+  | inr from ↦ subst (R k (get_or old k d)) (sym (same k d from)) (still k d from below)
 ]
 
--- ---- a walk
+-- ---- an element that is there
 
-module _ (cells bodies_shown : ℕ → Option (List ℕ)) (params : Params) (tree : Tree) where
-  pub still : (w : WalkValue) → IsInRange params w → HasRun cells bodies_shown params tree w w
-  still w range = record { target = refl; range = range; within = λ few. few; bound = omega arith; over = λ files bodies of_tree shows on. (on, omega arith) }
-
-  pub has_run : (old new : WalkValue) (result : Result Bool PageName) → new.target ≡ old.target → IsInRange params new → (IsWithin tree.mass old → IsWithin tree.mass new) → step_bound tree new.items ≤ step_bound tree old.items
-      → OnTree params tree cells bodies_shown old (λ bodies file. RunsTree cells bodies_shown params bodies tree file old new result) → HasRun cells bodies_shown params tree old new
-  has_run old new result target range within less over = record {
-    target = target;
-    range = range;
-    within = within;
-    bound = less;
-    over = λ files bodies of_tree shows on. let after = over files bodies of_tree shows on in (after.on, after.left);
-  }
-
-  pub has_settled : (old new : WalkValue) (result : Result Bool PageName) → (new.items ≡ []) ⊎ IsBlocked cells bodies_shown tree new.items
-      → (CanVisit cells bodies_shown tree old.items → step_bound tree new.items < step_bound tree old.items)
-      → OnTree params tree cells bodies_shown old (λ bodies file. RunsTree cells bodies_shown params bodies tree file old new result) → HasSettled cells bodies_shown params tree old new
-  has_settled old new result settled lower over = record {
-    settled = settled;
-    lower = lower;
-    fewer = λ files bodies of_tree shows on. (over files bodies of_tree shows on).lower;
-  }
-
-any_default : (xs : List WalkValue) (i : ℕ) (d e : WalkValue) → i < length xs → get_or xs i d ≡ get_or xs i e
+pub any_default : {A : Type 0} (xs : List A) (i : ℕ) (d e : A) → i < length xs → get_or xs i d ≡ get_or xs i e
 any_default [] i d e within = absurd (omega arith)
 any_default (x ∷ xs) zero d e within = refl
 any_default (x ∷ xs) (suc i) d e within = any_default xs i d e (omega arith)
 
--- the walk at the index of the loop, before it is run
-pub item_at : (old now : List WalkValue) (i : ℕ) (e : WalkValue) → i < length now → SameFrom i old now → (d : WalkValue) → get_or now i e ≡ get_or old i d
+-- the element at the index of the loop, before its turn
+pub item_at : {A : Type 0} (old now : List A) (i : ℕ) (e : A) → i < length now → SameFrom i old now → (d : A) → get_or now i e ≡ get_or old i d
 item_at old now i e within same d = any_default now i e d within ∙ same i d (omega arith)
 
--- ---- whether all are finished
-
-pub all_more : (P : WalkValue → Type 0) (now : List WalkValue) (i : ℕ) (w : WalkValue) → ((k : ℕ) (d : WalkValue) → k < i → P (get_or now k d)) → i < length now → P w → (k : ℕ) (d : WalkValue) → k < i + 1 → P (get_or (set now i w) k d)
-all_more P now i w each within own k d below = elim (cases_lt k i) [
+-- where a change keeps a relation, one change more keeps it
+pub each_set : {A : Type 0} (R : A → A → Type 0) (old now : List A) (n i : ℕ) (w : A) → EachAt (λ k. R) n old now → i < length now → ((d : A) → R (get_or old i d) w) → EachAt (λ k. R) n old (set now i w)
+each_set R old now n i w each within own k d below = elim (cases_lt k i) [
   | inl before ↦
       let other : k ≢ i = omega arith in
-      subst P (sym (get_or-set_other now i k w d other)) (each k d before)
-  | inr from ↦
-      let same : k ≡ i = omega arith in
-      subst (λ j. P (get_or (set now i w) j d)) (sym same) (subst P (sym (get_or-set_same now i w d within)) own)
+      subst (R (get_or old k d)) (sym (get_or-set_other now i k w d other)) (each k d below)
+  | inr from ↦ elim (cases_lt i k) [
+    | inl behind ↦
+        let other : k ≢ i = omega arith in
+        subst (R (get_or old k d)) (sym (get_or-set_other now i k w d other)) (each k d below)
+    | inr there ↦
+        let same : k ≡ i = omega arith in
+        subst (λ j. R (get_or old j d) (get_or (set now i w) j d)) (sym same) (subst (R (get_or old i d)) (sym (get_or-set_same now i w d within)) (own d))
+  ]
 ]
-
-pub one_waits : (cells bodies : ℕ → Option (List ℕ)) (tree : Tree) (walks : List WalkValue) (k : ℕ) → k < length walks → ((d : WalkValue) → IsBlocked cells bodies tree (get_or walks k d).items) → OneWaits cells bodies tree walks
-one_waits cells bodies tree [] k within waits = absurd (omega arith)
-one_waits cells bodies tree (w ∷ ws) k within waits =
-    let walk = get_or (w ∷ ws) k w in
-    record { walk = walk; there = (k, within, any_default (w ∷ ws) k walk w within); waits = waits w }
-
-pub blames_one : (cells bodies : ℕ → Option (List ℕ)) (tree : Tree) (name : PageName) (walks : List WalkValue) (k : ℕ) → k < length walks → ((d : WalkValue) → LooksAt cells bodies tree (get_or walks k d).items name) → BlamesOne cells bodies tree walks name
-blames_one cells bodies tree name [] k within looks = absurd (omega arith)
-blames_one cells bodies tree name (w ∷ ws) k within looks =
-    let walk = get_or (w ∷ ws) k w in
-    record { walk = walk; there = (k, within, any_default (w ∷ ws) k walk w within); looks = looks w }

@@ -12,3 +12,7 @@ pub mod Walk
 pub mod Taking
 pub mod Running
 pub mod Pool
+pub mod Shared
+pub mod Part
+pub mod Group
+pub mod Joining

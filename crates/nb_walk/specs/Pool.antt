@@ -1,6 +1,6 @@
 -- A pool of walks, in the order in which they were begun, and what an advance does. Of a walk's items it is said which they
 -- are and not in which order they are taken, and each walk that isn't finished has one that it needs, as the pool chooses.
-use Rattle.std.specs.Prelude.{◌≡◌, ◌≢◌, ℕ, ◌<◌, ◌≤◌, ◌↔◌, Bool, if◌then◌else◌, List, [], ◌∷◌, ◌++◌, map, sum_by, All, Contains, Option, Some, None}
+use Rattle.std.specs.Prelude.{◌≡◌, ◌≢◌, ℕ, ◌<◌, ◌≤◌, ◌↔◌, List, [], ◌∷◌, ◌++◌, map, sum_by, All, Contains, Option, Some, None}
 use Rattle.nb_model.specs.declared.body.At.{At}
 use Rattle.nb_model.specs.declared.body.V3.{V3}
 use Rattle.nb_model.specs.declared.body.Body.{Body}
@@ -13,9 +13,9 @@ use Rattle.nb_host.specs.Page.{IsRising}
 use Rattle.nb_record.specs.declared.tree.Tree.{Tree}
 use Rattle.nb_record.specs.Tree.{IsTreeOf}
 use Rattle.nb_walk.specs.declared.item.Item.{Item}
-use Rattle.nb_walk.specs.Items.{last_item, page_for}
+use Rattle.nb_walk.specs.Items.{page_for}
 use Rattle.nb_walk.specs.Left.{step_bound, remaining_pages}
-use Rattle.nb_walk.specs.Shown.{Shows, LooksAt, shown_for}
+use Rattle.nb_walk.specs.Shown.{Shows, shown_for}
 use Rattle.nb_walk.specs.Page.{IsPageOf}
 use Rattle.nb_walk.specs.Walk.{WalkValue, new_walk, IsInRange, IsWithin, IsWalkOn}
 
@@ -32,10 +32,6 @@ pub record PoolValue : Type 0 where
 
 abbrev pub unasked : WalkValue → PooledWalk
 unasked walk = record { walk = walk; needs = None }
-
--- each walk waits at its last item, where they were asked
-abbrev pub pooled : Bool → WalkValue → PooledWalk
-pooled asked walk = record { walk = walk; needs = if asked then last_item walk.items else None }
 
 -- no walk was asked what it waits for since it was begun
 abbrev pub all_unasked : List PooledWalk → List PooledWalk
@@ -85,11 +81,14 @@ pub record IsWanted (tree : Tree) (walks : List PooledWalk) (wants : List PageNa
   pub names : (name : PageName) → Contains wants name ↔ IsNeeded tree walks name
   pub pages : All (IsPageOf tree) wants
 
--- the page is shown, and a visit of some walk looks at it next
+-- the page is shown, and is that of an item that some walk has left
 pub record BlamesOne (cells bodies : ℕ → Option (List ℕ)) (tree : Tree) (walks : List WalkValue) (name : PageName) : Type 0 where
   pub walk : WalkValue
   pub there : Contains walks walk
-  pub looks : LooksAt cells bodies tree walk.items name
+  pub item : Item
+  pub left : Contains walk.items item
+  pub page : page_for tree item ≡ name
+  pub shown : shown_for cells bodies tree item ≢ None
 
 -- ---- what bounds the rounds
 

@@ -7,25 +7,29 @@ ghost use Rattle.nb_host.specs.Page.{IsRising};
 ghost use Rattle.nb_model.specs.declared.body.Body.{Body as Bodies};
 ghost use Rattle.nb_record.specs.Tree.{IsTreeOf};
 ghost use Rattle.nb_walk.specs.Shown.{IsWalkable, Shows};
-ghost use Rattle.nb_walk.specs.Running.{HasRun, HasSettled, Each, OneWaits, IsNext};
-ghost use Rattle.nb_walk.specs.Page.{IsPageOf};
-ghost use Rattle.nb_walk.specs.Walk.{new_walk, IsInRange, IsWalkOn};
-ghost use Rattle.nb_walk.specs.Pool.{unasked, all_unasked, pooled, targets, sums, AreInRange, AreWithin, AreFinished, IsSettled, SomeWaits, BlamesOne, IsNeeded, IsWanted, pool_bound, CanGoOn, IsAdvanced, PoolOnTree};
+ghost use Rattle.nb_walk.specs.Walk.{new_walk};
+ghost use Rattle.nb_walk.specs.Pool.{unasked, all_unasked, targets, sums, AreInRange, AreWithin, AreFinished, IsSettled, SomeWaits, BlamesOne, IsWanted, pool_bound, CanGoOn, IsAdvanced, PoolOnTree};
 
-use crate::walk::Walk;
+use crate::group::Group;
+use crate::shared::BLOCK;
 use nb_host::PageName;
 use nb_model::{At, NoMemory, Params, V3};
 use nb_record::{Lender, Tree};
 use std::alloc::Global;
 use std::marker::Model;
 
-/// Walks over one tree, in the order in which they were begun, and the pages that they wait for. Its memory
-/// is taken once.
+/// For how many shared items there is room for each block of walks. Those of trees of 100,000 bodies were
+/// seen to need 1,378; where there is none left, a walk takes an item by itself.
+const BLOCK_ROOM: usize = 4096;
+
+/// Walks over one tree, in the order in which they were begun, and the pages that they wait for. A page is
+/// looked at once for all walks that need it, as Salmon and Warren (1997) have many walks share what was
+/// fetched. Its memory is taken once.
 #[derive(Drop)]
 pub struct Pool {
     /// For how many walks there is room.
     room: usize,
-    walks: Vec<Walk>,
+    group: Group,
     /// The names of the needed pages, where `asked`.
     wants: Vec<PageName>,
     /// Whether an advance was the last call that changed the walks, and found no damage.
@@ -33,20 +37,22 @@ pub struct Pool {
 }
 
 impl Model for Pool {
-    ghost use Rattle.std.specs.Prelude.{◌≤◌, map, vec_len, vec_capacity};
-    ghost use Rattle.nb_walk.specs.Pool.{PoolValue, pooled};
+    ghost use Rattle.std.specs.Prelude.{◌≡◌, ◌≤◌, true, length, vec_capacity};
+    ghost use Rattle.nb_walk.specs.Group.{pooled_walks, IsGroup, HaveNeeds};
+    ghost use Rattle.nb_walk.specs.Pool.{PoolValue};
 
     ghost Value = { PoolValue };
 
     ghost view = { λ p. record {
       room = p.room;
-      walks = map (pooled p.asked) p.walks.items;
+      walks = pooled_walks p.asked p.group;
       wants = p.wants.items;
     } };
 
     ghost invariant = { λ p.
-        (vec_len p.walks ≤ p.room) × (p.room ≤ vec_capacity p.walks) × (p.room ≤ vec_capacity p.wants)
-        × (1 ≤ p.room) × (p.room ≤ 1024) };
+        IsGroup p.group × (length p.group.tallies.items ≤ p.room) × (p.room ≤ vec_capacity p.group.tallies)
+        × (p.room ≤ vec_capacity p.group.owns) × (p.room ≤ vec_capacity p.wants)
+        × (1 ≤ p.room) × (p.room ≤ 1024) × (p.asked ≡ true → HaveNeeds p.group) };
 }
 
 impl Pool {
@@ -56,13 +62,19 @@ impl Pool {
         requires few { walks ≤ 1024 }
         ensures { IfOk result (λ pool. pool ≡ record { room = walks; walks = []; wants = [] }) }
     {
-        let room = walks;
-        let walks = Vec::with_capacity(alloc, room)?;
-        let wants = Vec::with_capacity(alloc, room)?;
+        Pool::with_room(alloc, walks, BLOCK_ROOM * walks.div_ceil(BLOCK))
+    }
+
+    /// The same, with room for so many shared items, whatever it is.
+    pub(crate) fn with_room(alloc: Global, walks: usize, room: usize) -> Result<Pool, NoMemory>
+        requires some { 1 ≤ walks }
+        requires few { walks ≤ 1024 }
+        ensures { IfOk result (λ pool. pool ≡ record { room = walks; walks = []; wants = [] }) }
+    {
         Ok(Pool {
-            room,
-            walks,
-            wants,
+            room: walks,
+            group: Group::new(alloc, walks, room)?,
+            wants: Vec::with_capacity(alloc, walks)?,
             asked: false,
         })
     }
@@ -81,14 +93,14 @@ impl Pool {
         ensures length { result ≡ length self.now.walks }
         ensures room { result ≤ self.now.room }
     {
-        self.walks.len()
+        self.group.tallies.len()
     }
 
     /// Drops all walks.
     pub fn clear(&mut self)
         ensures { self.new ≡ record { room = self.old.room; walks = []; wants = [] } }
     {
-        self.walks.clear();
+        self.group.clear();
         self.wants.clear();
         self.asked = false;
     }
@@ -103,13 +115,13 @@ impl Pool {
           wants = [];
         } }
     {
-        let _ = self.walks.push(Walk::start(target));
+        self.group.begin(target);
         self.wants.clear();
         self.asked = false;
     }
 
-    /// Has each walk visit until it waits or is finished, and answers whether all are finished. Err comes
-    /// with the name of a page that is shown and isn't the tree's.
+    /// Has each walk go on until it waits or is finished, and answers whether all are finished. A walk takes
+    /// its items in any order. Err comes with the name of a page that is shown and isn't the tree's.
     pub fn advance<L: Lender>(
         &mut self,
         params: &Params,
@@ -143,11 +155,12 @@ impl Pool {
     {
         self.wants.clear();
         self.asked = false;
-        let done = run_all(&mut self.walks, params, tree, lender)?;
-        gather(&self.walks, tree, &mut self.wants);
+        self.group.run(params, tree, lender)?;
+        self.group.ask();
+        self.group.gather(tree, &mut self.wants);
         sort_names(&mut self.wants);
         self.asked = true;
-        Ok(done)
+        Ok(self.wants.is_empty())
     }
 
     /// The names of the pages that the walks wait for, as the last `advance` found them: rising, each once.
@@ -163,55 +176,7 @@ impl Pool {
         requires { i < length self.now.walks }
         ensures { slice_get (sums self.now.walks) i ≡ Some result }
     {
-        self.walks[i].sum()
-    }
-}
-
-/// Has each walk visit until it waits or is finished, and tells whether all are finished.
-fn run_all<L: Lender>(
-    walks: &mut [Walk],
-    params: &Params,
-    tree: &Tree,
-    lender: &L,
-) -> Result<bool, PageName>
-    requires tree { IsWalkable params.now tree.now }
-    requires range { All (λ w. IsInRange params.now w) walks.old }
-    ensures each { Each (HasRun (L.cells lender.now) (L.bodies lender.now) params.now tree.now)
-        (length walks.old) walks.old walks.new }
-    ensures settled { OnOk result (Each
-        (HasSettled (L.cells lender.now) (L.bodies lender.now) params.now tree.now)
-        (length walks.old) walks.old walks.new) }
-    ensures finished { result ≡ Ok true → All (λ w. w.items ≡ []) walks.new }
-    ensures waits { result ≡ Ok false
-        → OneWaits (L.cells lender.now) (L.bodies lender.now) tree.now walks.new }
-    ensures damaged { (name : Names) → result ≡ Err name
-        → BlamesOne (L.cells lender.now) (L.bodies lender.now) tree.now walks.new name }
-    ensures sound { (files : ℕ → List ℕ) (bodies : List Bodies) → IsTreeOf tree.now files params.now bodies
-        → Shows (L.cells lender.now) (L.bodies lender.now) tree.now files
-        → All (λ w. IsWalkOn params.now bodies tree.now (files tree.now.cells) w) walks.old → IsOk result }
-{
-    let mut done = true;
-    for walk in walks.iter_mut() {
-        if !walk.run(params, tree, lender)? {
-            done = false;
-        }
-    }
-    Ok(done)
-}
-
-/// The names of the pages of the walks' next items, each as often as there are such walks.
-fn gather(walks: &[Walk], tree: &Tree, wants: &mut Vec<PageName>)
-    requires bits { tree.now.bits ≤ 18 }
-    requires empty { wants.old.items ≡ [] }
-    requires room { length walks.now ≤ vec_capacity wants.old }
-    ensures names { (name : Names) → Contains wants.new.items name ↔ IsNext tree.now walks.now name }
-    ensures pages { All (IsPageOf tree.now) wants.new.items }
-    ensures capacity { vec_capacity wants.old ≤ vec_capacity wants.new }
-{
-    for walk in walks {
-        if let Some(name) = walk.needed(tree) {
-            let _ = wants.push(name);
-        }
+        self.group.tallies[i].sum
     }
 }
 

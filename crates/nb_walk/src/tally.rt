@@ -3,12 +3,12 @@
 ghost use Rattle.std.specs.Prelude.{◌≡◌, ◌≢◌, ℕ, ◌+◌, ◌*◌, ◌<◌, ◌≤◌, ◌↔◌, ◌⊎◌, false, IsTrue, ◌∷◌, [], length, All, sum_by};
 ghost use Rattle.nb_model.specs.Limits.{gm_limit};
 ghost use Rattle.nb_model.specs.Valid.{AreInRange, IsBelow, IsInBox};
-ghost use Rattle.nb_model.specs.Vector.{plus};
+ghost use Rattle.nb_model.specs.Vector.{plus, zero_vector};
 ghost use Rattle.nb_key.specs.Morton.{morton_key};
 ghost use Rattle.nb_record.specs.Pages.{page_count};
 ghost use Rattle.nb_record.specs.Records.{body_record, IsBodyRecord};
 ghost use Rattle.nb_walk.specs.declared.term.Term.TheVariants as term;
-ghost use Rattle.nb_walk.specs.Angle.{by_angle};
+ghost use Rattle.nb_walk.specs.Angle.{by_angle, level_of};
 ghost use Rattle.nb_walk.specs.Terms.{term_mass};
 ghost use Rattle.nb_walk.specs.Shown.{IsAtMost};
 ghost use Rattle.nb_walk.specs.Taking.{Adds, page_terms};
@@ -38,6 +38,19 @@ pub(crate) struct Tally {
 }
 
 impl Tally {
+    /// Nothing taken yet, for a target in the box.
+    pub(crate) fn start(target: At) -> Tally
+        requires { IsInBox target }
+        ensures { result ≡ record { target = target; key = morton_key target; sum = zero_vector; taken = 0 } }
+    {
+        Tally {
+            key: Key::of(target.x, target.y, target.z).number(),
+            target,
+            sum: V3 { x: 0, y: 0, z: 0 },
+            taken: 0,
+        }
+    }
+
     /// Whether a cell acts on the target as one mass.
     pub(crate) fn accepts(&self, params: &Params, cell: &CellView<'_>) -> bool
         requires params { AreInRange params.now }
@@ -46,9 +59,21 @@ impl Tally {
         ensures { result ≡ by_angle params.now self.now.target cell.now.key cell.now.centre }
     {
         let key = cell.key();
-        let level = key.level();
-        let inside = self.key >> (OCTANT_BITS * (DEEPEST_LEVEL - level)) == key.number();
-        !opens(params, &self.target, level, &cell.centre(), inside)
+        self.accepts_at(params, key, key.level(), &cell.centre())
+    }
+
+    /// Whether the cell with a key, its level and a centre of mass acts on the target as one mass.
+    pub(crate) fn accepts_at(&self, params: &Params, key: Key, level: u32, centre: &At) -> bool
+        requires params { AreInRange params.now }
+        requires target { IsInBox self.now.target }
+        requires key { self.now.key ≡ morton_key self.now.target }
+        requires level { level ≡ level_of key }
+        requires centre { IsInBox centre.now }
+        ensures { result ≡ by_angle params.now self.now.target key centre.now }
+    {
+        let number = key.number();
+        let inside = self.key >> (OCTANT_BITS * (DEEPEST_LEVEL - level)) == number;
+        !opens(params, &self.target, level, centre, inside)
     }
 
     /// Adds the pull of a mass at `centre`, where with it no more than `most` is taken.

@@ -64,13 +64,10 @@ impl Walk {
     {
         let mut items = ArrayVec::new();
         items.push(Item::Cell(Key::root(), 0));
-        let tally = Tally {
-            key: Key::of(target.x, target.y, target.z).number(),
-            target,
-            sum: V3 { x: 0, y: 0, z: 0 },
-            taken: 0,
-        };
-        Walk { tally, items }
+        Walk {
+            tally: Tally::start(target),
+            items,
+        }
     }
 
     /// Looks at one page: of a key's chain, or of the bodies of a leaf. Wants comes where the next item's
@@ -108,69 +105,7 @@ impl Walk {
             items.clear();
             return Visit::Finished;
         }
-        let Some(item) = take_last(items) else {
-            return Visit::Finished;
-        };
-        match item {
-            Item::Cell(key, page) => visit_cell(items, tally, key, page, params, tree, lender),
-            Item::Bodies(from, count) => {
-                visit_bodies(items, tally, from, count, params, tree, lender)
-            }
-        }
-    }
-
-    /// Visits until the walk is finished, which it answers by true, or waits.
-    pub(crate) fn run<L: Lender>(
-        &mut self,
-        params: &Params,
-        tree: &Tree,
-        lender: &L,
-    ) -> Result<bool, PageName>
-        requires tree { IsWalkable params.now tree.now }
-        requires range { IsInRange params.now self.old }
-        ensures target { self.new.target ≡ self.old.target }
-        ensures range { IsInRange params.now self.new }
-        ensures within { IsWithin tree.now.mass self.old → IsWithin tree.now.mass self.new }
-        ensures finished { result ≡ Ok true → self.new.items ≡ [] }
-        ensures waits { result ≡ Ok false
-            → IsBlocked (L.cells lender.now) (L.bodies lender.now) tree.now self.new.items }
-        ensures damaged { (name : Names) → result ≡ Err name
-            → LooksAt (L.cells lender.now) (L.bodies lender.now) tree.now self.new.items name }
-        ensures bound { step_bound tree.now self.new.items ≤ step_bound tree.now self.old.items }
-        ensures lower { CanVisit (L.cells lender.now) (L.bodies lender.now) tree.now self.old.items
-            → OnOk result (step_bound tree.now self.new.items < step_bound tree.now self.old.items) }
-        ensures tree { OnTree params.now tree.now (L.cells lender.now) (L.bodies lender.now) self.old
-            (λ bodies file. RunsTree (L.cells lender.now) (L.bodies lender.now)
-            params.now bodies tree.now file self.old self.new result) }
-    {
-        loop {
-            match self.visit(params, tree, lender) {
-                Visit::Moved => {}
-                Visit::Wants(_) => return Ok(false),
-                Visit::Finished => return Ok(true),
-                Visit::Damaged(name) => return Err(name),
-            }
-        }
-    }
-
-    /// The name of the page of the next item.
-    pub(crate) fn needed(&self, tree: &Tree) -> Option<PageName>
-        requires bits { tree.now.bits ≤ 18 }
-        ensures { MatchOption result (self.now.items ≡ [])
-            (λ name. (item : SomeItem) × (last_item self.now.items ≡ Some item)
-            × (name ≡ page_for tree.now item) × IsPageOf tree.now name) }
-    {
-        let item = self.items.as_slice().last().copied()?;
-        Some(match item {
-            Item::Cell(key, page) => PageName {
-                file: tree.cells,
-                page: page_at(tree.bits, key, page),
-            },
-            Item::Bodies(from, _) => PageName {
-                file: tree.bodies,
-                page: from / BODIES_PER_PAGE,
-            },
-        })
+        visit_item(items, tally, params, tree, lender)
     }
 
     /// The pulls so far, in box units a tick.
@@ -178,6 +113,53 @@ impl Walk {
         ensures { result ≡ self.now.sum }
     {
         self.tally.sum
+    }
+}
+
+/// A visit at the next item, where one is left.
+pub(crate) fn visit_item<L: Lender>(
+    items: &mut Items,
+    tally: &mut Tally,
+    params: &Params,
+    tree: &Tree,
+    lender: &L,
+) -> Visit
+    requires tree { IsWalkable params.now tree.now }
+    requires some { tree.now.count ≢ 0 }
+    requires target { IsInBox tally.old.target }
+    requires key { tally.old.key ≡ morton_key tally.old.target }
+    requires range { IsAtMost (params.now.grav * tally.old.taken) tally.old.sum }
+    requires room { HasRoom items.old.items }
+    ensures wants { (name : Names) → ((result ≡ Visit.Wants name)
+        ↔ WaitsFor (L.cells lender.now) (L.bodies lender.now) tree.now items.old.items name) }
+    ensures same { (name : Names) → result ≡ Visit.Wants name
+        → (items.new.items ≡ items.old.items) × (tally.new ≡ tally.old) }
+    ensures finished { (result ≡ Visit.Finished) ↔ (items.old.items ≡ []) }
+    ensures done { result ≡ Visit.Finished → (items.new.items ≡ []) × (tally.new ≡ tally.old) }
+    ensures damaged { (name : Names) → result ≡ Visit.Damaged name
+        → LooksAt (L.cells lender.now) (L.bodies lender.now) tree.now items.old.items name }
+    ensures kept { (name : Names) → result ≡ Visit.Damaged name → items.new.items ≡ items.old.items }
+    ensures room { HasRoom items.new.items }
+    ensures target { tally.new.target ≡ tally.old.target }
+    ensures key { tally.new.key ≡ tally.old.key }
+    ensures range { IsAtMost (params.now.grav * tally.new.taken) tally.new.sum }
+    ensures within { tally.old.taken ≤ tree.now.mass → tally.new.taken ≤ tree.now.mass }
+    ensures look { result ≡ Visit.Moved
+        → IsOneLook later_bodies (L.cells lender.now) (L.bodies lender.now) tree.now
+        items.old.items items.new.items }
+    ensures lower { Lowers result (step_bound tree.now items.old.items)
+        (step_bound tree.now items.new.items) }
+    ensures tree { result ≢ Visit.Finished → TakesTree params.now tree.now (L.cells lender.now)
+        (L.bodies lender.now) items.old.items items.new.items tally.old tally.new result }
+{
+    let Some(item) = take_last(items) else {
+        return Visit::Finished;
+    };
+    match item {
+        Item::Cell(key, page) => visit_cell(items, tally, key, page, params, tree, lender),
+        Item::Bodies(from, count) => {
+            visit_bodies(items, tally, from, count, params, tree, lender)
+        }
     }
 }
 

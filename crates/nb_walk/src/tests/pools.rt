@@ -379,14 +379,16 @@ fn pages_are_shown_and_withdrawn(rt: HostRuntime) -> Result<(), Fail> {
         );
     }
     let params = params(0, 32);
-    let mut pool = Pool::new(rt.alloc(), 256)?;
-    begin_many(&mut pool, &params);
-    assert_eq!(rt; finish(&mut pool, &params, &cells, &bodies), true);
-    for i in 0..MANY {
-        assert_eq!(rt;
-            pool_sum(&pool, i as usize),
-            Some(direct(&params, &position(i)))
-        );
+    for room in [0, 8, 12, 24, 4096] {
+        let mut pool = Pool::with_room(rt.alloc(), 256, room)?;
+        begin_many(&mut pool, &params);
+        assert_eq!(rt; finish(&mut pool, &params, &cells, &bodies), true);
+        for i in 0..MANY {
+            assert_eq!(rt;
+                pool_sum(&pool, i as usize),
+                Some(direct(&params, &position(i)))
+            );
+        }
     }
     Ok(())
 }
