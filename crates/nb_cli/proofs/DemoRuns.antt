@@ -22,7 +22,7 @@ use Rattle.nb_engine.specs.Represents.{snap_of}
 use Rattle.nb_engine.specs.Start.{started, StartLeads}
 use Rattle.nb_engine.proofs.Callers.{length-steps}
 use Rattle.nb_cli.specs.Make.{made_bodies, made_params, made_start, IsMadeFrom, MakeLeads, IsThere, IsOfMake}
-use Rattle.nb_cli.specs.Telling.{HasStarted, HasGone, IsDoneThenTold, LeadsThenTells, TellsOut}
+use Rattle.nb_cli.specs.Telling.{IsStartDone, IsGoDone, IsDoneThenSaid, LeadsThenSays, LeadsWithoutErr}
 use Rattle.nb_cli.specs.Demo.{CanDemo, IsOfDemo, demo_list, coordinate_sum, summary_line, IsDemoDone, DemoLeads, IsUnlike}
 use Rattle.nb_cli.proofs.DemoCalls.{session_ran, session_syncing, session_by, session_as, session_refused, session_then, durable_stays, leads_behind}
 use Rattle.nb_cli.proofs.MadeStarts.{length-made}
@@ -44,7 +44,7 @@ module _ {H : Type 0} (m : HostModel H) (seed count target : ℕ) where
     pub can : CanDemo old.file target
     pub made : Image
     pub makes : IsMadeFrom seed count old made
-    pub told : IsDoneThenTold (StartLeads m.crashes.is_honest) HasStarted made now
+    pub told : IsDoneThenSaid (StartLeads m.crashes.is_honest) IsStartDone made now
 
   -- and led
   pub record WasLed (old now : Image) : Type 0 where
@@ -52,8 +52,8 @@ module _ {H : Type 0} (m : HostModel H) (seed count target : ℕ) where
     pub made : Image
     pub makes : IsMadeFrom seed count old made
     pub middle : Image
-    pub told : IsDoneThenTold (StartLeads m.crashes.is_honest) HasStarted made middle
-    pub gone : IsDoneThenTold (GoLeads m.crashes.is_honest target) (HasGone target) middle now
+    pub told : IsDoneThenSaid (StartLeads m.crashes.is_honest) IsStartDone made middle
+    pub gone : IsDoneThenSaid (GoLeads m.crashes.is_honest target) (IsGoDone target) middle now
 
   -- All calls so far answered Ok, what reads is durable, and over a host that tells this is known of it.
   pub record IsSoFar (Facts : Image → Image → Type 0) (old now : H) : Type 0 where
@@ -134,14 +134,14 @@ module _ {H : Type 0} (m : HostModel H) (seed count target : ℕ) where
 
   -- the run is started
   pub started_ran : {T : Type 0} {old middle new : H} {result : Result T Refusal} → IsSoFar WasMade old middle
-      → RanSession m (TellsOut (LeadsThenTells (StartLeads honest) HasStarted)) middle new result
+      → RanSession m (LeadsWithoutErr (LeadsThenSays (StartLeads honest) IsStartDone)) middle new result
       → RanSession m (DemoLeads honest seed count target) old new result
   started_ran so ran =
       next_ran so ran (λ tells start between image facts step. leads_starting honest seed count target facts.can facts.makes step)
 
   pub started_so : {T : Type 0} {old middle new : H} {result : Result T Refusal} → IsOk result → IsSoFar WasMade old middle
-      → RanSession m (TellsOut (LeadsThenTells (StartLeads honest) HasStarted)) middle new result → IsDurable m new
-      → (IsTrue m.tells → IsDoneThenTold (StartLeads honest) HasStarted (m.contents middle) (m.contents new))
+      → RanSession m (LeadsWithoutErr (LeadsThenSays (StartLeads honest) IsStartDone)) middle new result → IsDurable m new
+      → (IsTrue m.tells → IsDoneThenSaid (StartLeads honest) IsStartDone (m.contents middle) (m.contents new))
       → IsSoFar WasStarted old new
   started_so {middle = middle} ok so ran durable told =
       next_so so.first ok (started_ran so ran) durable
@@ -151,14 +151,14 @@ module _ {H : Type 0} (m : HostModel H) (seed count target : ℕ) where
 
   -- and led
   pub led_ran : {T : Type 0} {old middle new : H} {result : Result T Refusal} → IsSoFar WasStarted old middle
-      → RanSession m (TellsOut (LeadsThenTells (GoLeads honest target) (HasGone target))) middle new result
+      → RanSession m (LeadsWithoutErr (LeadsThenSays (GoLeads honest target) (IsGoDone target))) middle new result
       → RanSession m (DemoLeads honest seed count target) old new result
   led_ran so ran =
       next_ran so ran (λ tells start between image facts step. leads_going honest seed count target facts.can facts.makes facts.told step)
 
   pub led_so : {T : Type 0} {old middle new : H} {result : Result T Refusal} → IsOk result → IsSoFar WasStarted old middle
-      → RanSession m (TellsOut (LeadsThenTells (GoLeads honest target) (HasGone target))) middle new result → IsDurable m new
-      → (IsTrue m.tells → IsDoneThenTold (GoLeads honest target) (HasGone target) (m.contents middle) (m.contents new))
+      → RanSession m (LeadsWithoutErr (LeadsThenSays (GoLeads honest target) (IsGoDone target))) middle new result → IsDurable m new
+      → (IsTrue m.tells → IsDoneThenSaid (GoLeads honest target) (IsGoDone target) (m.contents middle) (m.contents new))
       → IsSoFar WasLed old new
   led_so {middle = middle} ok so ran durable gone =
       next_so so.first ok (led_ran so ran) durable

@@ -18,7 +18,7 @@ use Rattle.nb_engine.specs.Represents.{RepresentsRun}
 use Rattle.nb_engine.specs.Sessions.{ticks_to, GoLeads, IsNoLeg, IsGoRefused, IsSlotSpoilt, IsOfGo}
 use Rattle.nb_engine.specs.Start.{Start, started, StartLeads}
 use Rattle.nb_engine.specs.Steps.{HasState}
-use Rattle.nb_cli.specs.Telling.{HasStarted, HasGone, TellsOut, LeadsThenTells}
+use Rattle.nb_cli.specs.Telling.{IsStartDone, IsGoDone, LeadsWithoutErr, LeadsThenSays}
 use Rattle.nb_cli.specs.Demo.{IsOfDemo, go_behind_start}
 use Rattle.nb_cli.proofs.Causes.{not_shown}
 use Rattle.nb_cli.proofs.MadeStarts.{go_needless}
@@ -38,31 +38,31 @@ module _ {H : Type 0} (m : HostModel H) where
   honest = m.crashes.is_honest
 
   pub start_unsaid : {old new : H} → Leads m (StartLeads honest) old new
-      → Leads m (TellsOut (LeadsThenTells (StartLeads honest) HasStarted)) old new
+      → Leads m (LeadsWithoutErr (LeadsThenSays (StartLeads honest) IsStartDone)) old new
   start_unsaid leads =
-      leads_more (session_leads (StartLeads honest) HasStarted (start_err honest) leads)
+      leads_more (session_leads (StartLeads honest) IsStartDone (start_err honest) leads)
       (λ old new step. record { leads = step.touches; err = step.err })
 
   pub start_said : (line : List ℕ) {old middle new : H} → IsDurable m old → Leads m (StartLeads honest) old middle
-      → IsDurable m middle → (IsTrue m.tells → HasStarted (m.contents old) (m.contents middle) line)
+      → IsDurable m middle → (IsTrue m.tells → IsStartDone (m.contents old) (m.contents middle) line)
       → Leads m (SaysPart channels.Out line) middle new
-      → Leads m (TellsOut (LeadsThenTells (StartLeads honest) HasStarted)) old new
+      → Leads m (LeadsWithoutErr (LeadsThenSays (StartLeads honest) IsStartDone)) old new
   start_said line before leads durable did said =
-      leads_more (session_told (StartLeads honest) HasStarted (start_err honest) line before leads durable did said)
+      leads_more (session_told (StartLeads honest) IsStartDone (start_err honest) line before leads durable did said)
       (λ old new step. record { leads = step.touches; err = step.err })
 
   pub go_unsaid : (target : ℕ) {old new : H} → Leads m (GoLeads honest target) old new
-      → Leads m (TellsOut (LeadsThenTells (GoLeads honest target) (HasGone target))) old new
+      → Leads m (LeadsWithoutErr (LeadsThenSays (GoLeads honest target) (IsGoDone target))) old new
   go_unsaid target leads =
-      leads_more (session_leads (GoLeads honest target) (HasGone target) (go_err honest target) leads)
+      leads_more (session_leads (GoLeads honest target) (IsGoDone target) (go_err honest target) leads)
       (λ old new step. record { leads = step.touches; err = step.err })
 
   pub go_said : (target : ℕ) (line : List ℕ) {old middle new : H} → IsDurable m old → Leads m (GoLeads honest target) old middle
-      → IsDurable m middle → (IsTrue m.tells → HasGone target (m.contents old) (m.contents middle) line)
+      → IsDurable m middle → (IsTrue m.tells → IsGoDone target (m.contents old) (m.contents middle) line)
       → Leads m (SaysPart channels.Out line) middle new
-      → Leads m (TellsOut (LeadsThenTells (GoLeads honest target) (HasGone target))) old new
+      → Leads m (LeadsWithoutErr (LeadsThenSays (GoLeads honest target) (IsGoDone target))) old new
   go_said target line before leads durable did said =
-      leads_more (session_told (GoLeads honest target) (HasGone target) (go_err honest target) line before leads durable did said)
+      leads_more (session_told (GoLeads honest target) (IsGoDone target) (go_err honest target) line before leads durable did said)
       (λ old new step. record { leads = step.touches; err = step.err })
 
 -- ---- why `go` is refused

@@ -15,11 +15,11 @@ use Rattle.nb_engine.specs.Files.{params_file, init_file}
 use Rattle.nb_engine.specs.Histories.{History, IsHistory, run_of, ticks_of, legged}
 use Rattle.nb_engine.specs.Represents.{snap_of, RepresentsRun}
 use Rattle.nb_engine.specs.Sessions.{aimed_at, ticks_to, GoLeads, IsLed}
-use Rattle.nb_engine.specs.Start.{Start, started, IsBegun, IsStartReady, StartLeads}
-use Rattle.nb_engine.specs.Steps.{lines_behind, SaidFrontOf, played}
+use Rattle.nb_engine.specs.Start.{Start, started, RepresentsStart, IsStartReady, StartLeads}
+use Rattle.nb_engine.specs.Steps.{lines_behind, SaidPrefixOf, played}
 use Rattle.nb_engine.proofs.Callers.{represents_kept, started_history}
 use Rattle.nb_cli.specs.Make.{made_bodies, made_start, HasMade, CanMake, IsMadeFrom, IsPartlyMade, MakeLeads}
-use Rattle.nb_cli.specs.Telling.{HasStarted, HasGone, IsDoneThenTold, LeadsThenTells, TellsOut}
+use Rattle.nb_cli.specs.Telling.{IsStartDone, IsGoDone, IsDoneThenSaid, LeadsThenSays, LeadsWithoutErr}
 use Rattle.nb_cli.specs.Demo.{CanDemo, demo_list, demo_history, summary_line, demo_text, IsDemoDone, DemoLeads}
 use Rattle.nb_cli.proofs.DemoCalls.{Out≢Err}
 use Rattle.nb_cli.proofs.MadeStarts.{length-made, made_ready, made_only}
@@ -88,14 +88,14 @@ module _ (honest : Bool) (seed count target : ℕ) where
     pub out : new.said channels.Out ≡ old.said channels.Out ++ started_line count 0
     pub err : new.said channels.Err ≡ old.said channels.Err
 
-  line_of_start : {old new : Image} {line : List ℕ} → HasMade seed count old.file → HasStarted old new line → line ≡ first_line
+  line_of_start : {old new : Image} {line : List ℕ} → HasMade seed count old.file → IsStartDone old new line → line ≡ first_line
   line_of_start made did =
       let same = made_only seed count made did.ready in
       did.line_is ∙ ap (λ (s : Start). started_line (length s.bodies) s.time) same
       ∙ ap (λ (n : ℕ). started_line n 0) (length-made seed count)
 
   pub started_on : {old made new : Image} → CanDemo old.file target → IsMadeFrom seed count old made
-      → IsDoneThenTold (StartLeads honest) HasStarted made new → IsStartedOn old new
+      → IsDoneThenSaid (StartLeads honest) IsStartDone made new → IsStartedOn old new
   started_on {made = made} {new = new} can makes told =
       let did = told.done in
       let ready = made_ready seed count made.file makes.made (fresh_made can makes) in
@@ -106,7 +106,7 @@ module _ (honest : Bool) (seed count target : ℕ) where
       let line = line_of_start makes.made did in
       record {
         represents = same_represents (started start_made) told.files
-            (subst (λ (s : Start). IsBegun s told.between) same did.begun);
+            (subst (λ (s : Start). RepresentsStart s told.between) same did.begun);
         history = started_history made.file start_made ready.starts ready.light;
         made = same_made told.files (kept_made params init makes.made);
         out = told.out ∙ ap (λ (l : List ℕ). told.between.said channels.Out ++ l) line
@@ -132,7 +132,7 @@ module _ (honest : Bool) (seed count target : ℕ) where
     line_is : line ≡ last_line
 
   gone_to : {old between : Image} {line : List ℕ} → IsHistory (started start_made) → RepresentsRun (started start_made) old
-      → HasGone target old between line → IsGoneTo old between line
+      → IsGoDone target old between line → IsGoneTo old between line
   gone_to {old = old} {between = between} history represents did =
       let led = did.led (started start_made) history represents in
       let h = demo_history seed count target in
@@ -148,7 +148,7 @@ module _ (honest : Bool) (seed count target : ℕ) where
       }
 
   pub led_on : {old middle new : Image} → IsStartedOn old middle
-      → IsDoneThenTold (GoLeads honest target) (HasGone target) middle new → IsLedOn middle new
+      → IsDoneThenSaid (GoLeads honest target) (IsGoDone target) middle new → IsLedOn middle new
   led_on {middle = middle} {new = new} begun told =
       let did = told.done in
       let led = did.led (started start_made) begun.history begun.represents in
@@ -169,8 +169,8 @@ module _ (honest : Bool) (seed count target : ℕ) where
 
   -- ---- fronts of the text
 
-  start_front : {old made image : Image} → IsMadeFrom seed count old made → LeadsThenTells (StartLeads honest) HasStarted made image
-      → SaidFrontOf (demo_text seed count target) (old.said channels.Out) (image.said channels.Out)
+  start_front : {old made image : Image} → IsMadeFrom seed count old made → LeadsThenSays (StartLeads honest) IsStartDone made image
+      → SaidPrefixOf (demo_text seed count target) (old.said channels.Out) (image.said channels.Out)
   start_front {old = old} {image = image} makes step =
       let before = old.said channels.Out in
       let now = image.said channels.Out in
@@ -180,16 +180,16 @@ module _ (honest : Bool) (seed count target : ℕ) where
         | inl same ↦ front_none (demo_text seed count target) before now (same ∙ out)
         | inr some ↦
             let line = line_of_start makes.made some.1 in
-            let front : SaidFrontOf first_line before now =
-            subst (λ (l : List ℕ). SaidFrontOf l before now) line
-            (subst (λ (l : List ℕ). SaidFrontOf some.0 l now) out some.2) in
+            let front : SaidPrefixOf first_line before now =
+            subst (λ (l : List ℕ). SaidPrefixOf l before now) line
+            (subst (λ (l : List ℕ). SaidPrefixOf some.0 l now) out some.2) in
             front_more (first_line ++ tick_lines ++ last_line) sum_line before now
             (front_more (first_line ++ tick_lines) last_line before now (front_more first_line tick_lines before now front))
       ]
 
   ticks_front : {middle between : Image} → IsTrue honest → IsHistory (started start_made) → RepresentsRun (started start_made) middle
       → GoLeads honest target middle between
-      → SaidFrontOf tick_lines (middle.said channels.Out) (between.said channels.Out)
+      → SaidPrefixOf tick_lines (middle.said channels.Out) (between.said channels.Out)
   ticks_front {middle = middle} {between = between} is_honest history represents leads =
       let before = middle.said channels.Out in
       let now = between.said channels.Out in
@@ -206,7 +206,7 @@ module _ (honest : Bool) (seed count target : ℕ) where
           | inr some ↦
               let aimed : legged target (started start_made) ≡ demo_history seed count target =
               sym (aimed_away target (started start_made) some) in
-              subst (λ (h : History). SaidFrontOf (lines_behind (run_of h) 0 target) before now) aimed
+              subst (λ (h : History). SaidPrefixOf (lines_behind (run_of h) 0 target) before now) aimed
               (lines_front (run_of (legged target (started start_made))) 0 on.1.done target before now (omega (arith, on.1.few, ticks_are))
               on.1.said)
         ]
@@ -220,22 +220,22 @@ module _ (honest : Bool) (seed count target : ℕ) where
       said ∙ ap (λ (l : List ℕ). l ++ tick_lines) begun.out ∙ append_assoc (old.said channels.Out) first_line tick_lines
 
   go_front : {old middle image : Image} → IsTrue honest → IsStartedOn old middle
-      → LeadsThenTells (GoLeads honest target) (HasGone target) middle image
-      → SaidFrontOf (demo_text seed count target) (old.said channels.Out) (image.said channels.Out)
+      → LeadsThenSays (GoLeads honest target) (IsGoDone target) middle image
+      → SaidPrefixOf (demo_text seed count target) (old.said channels.Out) (image.said channels.Out)
   go_front {old = old} {middle = middle} {image = image} is_honest begun step =
       let before = old.said channels.Out in
       let between = step.between.said channels.Out in
       let now = image.said channels.Out in
-      let front : SaidFrontOf (first_line ++ tick_lines ++ last_line) before now = elim step.told [
+      let front : SaidPrefixOf (first_line ++ tick_lines ++ last_line) before now = elim step.told [
         | inl same ↦
-            subst (λ (l : List ℕ). SaidFrontOf (first_line ++ tick_lines ++ last_line) before l) (sym same)
+            subst (λ (l : List ℕ). SaidPrefixOf (first_line ++ tick_lines ++ last_line) before l) (sym same)
             (front_more (first_line ++ tick_lines) last_line before between
             (front_behind first_line tick_lines before (middle.said channels.Out) between begun.out
             (ticks_front is_honest begun.history begun.represents step.leads)))
         | inr some ↦
             let gone = gone_to begun.history begun.represents some.1 in
             front_behind (first_line ++ tick_lines) last_line before between now (behind_first step.between begun gone.said)
-            (subst (λ (l : List ℕ). SaidFrontOf l between now) gone.line_is some.2)
+            (subst (λ (l : List ℕ). SaidPrefixOf l between now) gone.line_is some.2)
       ] in
       front_more (first_line ++ tick_lines ++ last_line) sum_line before now front
 
@@ -250,7 +250,7 @@ module _ (honest : Bool) (seed count target : ℕ) where
 
   sum_front : {old middle last image : Image} → IsStartedOn old middle → IsLedOn middle last
       → SaysPart channels.Out sum_line last image
-      → SaidFrontOf (demo_text seed count target) (old.said channels.Out) (image.said channels.Out)
+      → SaidPrefixOf (demo_text seed count target) (old.said channels.Out) (image.said channels.Out)
   sum_front {old = old} {last = last} {image = image} begun led part =
       front_behind (first_line ++ tick_lines ++ last_line) sum_line (old.said channels.Out) (last.said channels.Out)
       (image.said channels.Out) (said_before begun led) (part.0, part.1, part.2.said)
@@ -278,7 +278,7 @@ module _ (honest : Bool) (seed count target : ℕ) where
       }
 
   pub leads_starting : {old made image : Image} → CanDemo old.file target → IsMadeFrom seed count old made
-      → TellsOut (LeadsThenTells (StartLeads honest) HasStarted) made image → DemoLeads honest seed count target old image
+      → LeadsWithoutErr (LeadsThenSays (StartLeads honest) IsStartDone) made image → DemoLeads honest seed count target old image
   leads_starting {made = made} can makes step = record {
     leads = inr (record {
       can = can;
@@ -289,8 +289,8 @@ module _ (honest : Bool) (seed count target : ℕ) where
   }
 
   pub leads_going : {old made middle image : Image} → CanDemo old.file target → IsMadeFrom seed count old made
-      → IsDoneThenTold (StartLeads honest) HasStarted made middle
-      → TellsOut (LeadsThenTells (GoLeads honest target) (HasGone target)) middle image → DemoLeads honest seed count target old image
+      → IsDoneThenSaid (StartLeads honest) IsStartDone made middle
+      → LeadsWithoutErr (LeadsThenSays (GoLeads honest target) (IsGoDone target)) middle image → DemoLeads honest seed count target old image
   leads_going {made = made} {middle = middle} can makes told step =
       let begun = started_on can makes told in
       record {
@@ -303,8 +303,8 @@ module _ (honest : Bool) (seed count target : ℕ) where
       }
 
   pub leads_summing : {old made middle last image : Image} → CanDemo old.file target → IsMadeFrom seed count old made
-      → IsDoneThenTold (StartLeads honest) HasStarted made middle
-      → IsDoneThenTold (GoLeads honest target) (HasGone target) middle last
+      → IsDoneThenSaid (StartLeads honest) IsStartDone made middle
+      → IsDoneThenSaid (GoLeads honest target) (IsGoDone target) middle last
       → SaysPart channels.Out sum_line last image → DemoLeads honest seed count target old image
   leads_summing {made = made} {middle = middle} {last = last} can makes told gone part =
       let begun = started_on can makes told in
@@ -333,8 +333,8 @@ module _ (honest : Bool) (seed count target : ℕ) where
   -- ---- at the end
 
   pub demo_done : {old made middle last new : Image} → CanDemo old.file target → IsMadeFrom seed count old made
-      → IsDoneThenTold (StartLeads honest) HasStarted made middle
-      → IsDoneThenTold (GoLeads honest target) (HasGone target) middle last
+      → IsDoneThenSaid (StartLeads honest) IsStartDone made middle
+      → IsDoneThenSaid (GoLeads honest target) (IsGoDone target) middle last
       → Says channels.Out sum_line last new → IsDemoDone honest seed count target old new
   demo_done {old = old} {made = made} {middle = middle} {last = last} {new = new} can makes told gone says =
       let begun = started_on can makes told in

@@ -16,21 +16,21 @@ use Rattle.nb_format.specs.Snapshot.{IsSnapshot}
 use Rattle.nb_journal.specs.Form.{progress_of}
 use Rattle.nb_engine.specs.declared.going.Done.{Done}
 use Rattle.nb_engine.specs.Files.{init_file}
-use Rattle.nb_engine.specs.Histories.{Run, state_of, time_of, History, run_of, ticks_of, IsDue, legged}
+use Rattle.nb_engine.specs.Histories.{Run, state_of, time_of, History, run_of, ticks_of, IsDueAfter, legged}
 use Rattle.nb_engine.specs.Represents.{snap_of, IsOpened}
 use Rattle.nb_engine.specs.Sessions.{aimed_at, ticks_to, IsLed}
 use Rattle.nb_engine.specs.Start.{Start, started}
-use Rattle.nb_engine.specs.Steps.{line_of, lines_behind, SaidFrontOf, SaidLinesOf, played}
+use Rattle.nb_engine.specs.Steps.{tick_line_of, lines_behind, SaidPrefixOf, SaidLinesOf, played}
 use Rattle.nb_engine.proofs.Callers.{run-ticked, ticks-ticked, time-now}
 use Rattle.nb_cli.specs.Once.{list_at}
 
 -- ---- fronts of a text
 
-pub front_none : (text old new : List ℕ) → new ≡ old → SaidFrontOf text old new
+pub front_none : (text old new : List ℕ) → new ≡ old → SaidPrefixOf text old new
 front_none text old new same = (0, omega arith, same ∙ sym (append-nil old))
 
 -- one of a longer text
-pub front_more : (text rest old new : List ℕ) → SaidFrontOf text old new → SaidFrontOf (text ++ rest) old new
+pub front_more : (text rest old new : List ℕ) → SaidPrefixOf text old new → SaidPrefixOf (text ++ rest) old new
 front_more text rest old new front = (
   front.0,
   omega (arith, front.1, length-append text rest),
@@ -38,8 +38,8 @@ front_more text rest old new front = (
 )
 
 -- one that is said behind a first text
-pub front_behind : (first text old between new : List ℕ) → between ≡ old ++ first → SaidFrontOf text between new
-    → SaidFrontOf (first ++ text) old new
+pub front_behind : (first text old between new : List ℕ) → between ≡ old ++ first → SaidPrefixOf text between new
+    → SaidPrefixOf (first ++ text) old new
 front_behind first text old between new said front = (
   length first + front.0,
   omega (arith, front.1, length-append first text),
@@ -57,7 +57,7 @@ lines_rest run k few zero fewer =
     ([], ap (λ (i : ℕ). lines_behind run k i) (sym none) ∙ sym (append-nil (lines_behind run k few)))
 lines_rest run k few (suc many) fewer = elim (cases_lt few (suc many)) [
   | inl below ↦
-      let line = line_of run (suc (k + many)) in
+      let line = tick_line_of run (suc (k + many)) in
       let before = lines_rest run k few many (omega arith) in
       (before.0 ++ line, ap (λ (l : List ℕ). l ++ line) before.1 ∙ append_assoc (lines_behind run k few) before.0 line)
   | inr above ↦
@@ -65,19 +65,19 @@ lines_rest run k few (suc many) fewer = elim (cases_lt few (suc many)) [
       ([], ap (λ (i : ℕ). lines_behind run k i) (sym same) ∙ sym (append-nil (lines_behind run k few)))
 ]
 
-lines_more : (run : Run) (k few many : ℕ) (old new : List ℕ) → few ≤ many → SaidFrontOf (lines_behind run k few) old new
-    → SaidFrontOf (lines_behind run k many) old new
+lines_more : (run : Run) (k few many : ℕ) (old new : List ℕ) → few ≤ many → SaidPrefixOf (lines_behind run k few) old new
+    → SaidPrefixOf (lines_behind run k many) old new
 lines_more run k few many old new fewer front =
     let more = lines_rest run k few many fewer in
-    subst (λ (text : List ℕ). SaidFrontOf text old new) (sym more.1) (front_more (lines_behind run k few) more.0 old new front)
+    subst (λ (text : List ℕ). SaidPrefixOf text old new) (sym more.1) (front_more (lines_behind run k few) more.0 old new front)
 
 -- what was said while at most so many ticks were taken
 pub lines_front : (run : Run) (k done most : ℕ) (old new : List ℕ) → done ≤ most → SaidLinesOf run k done old new
-    → SaidFrontOf (lines_behind run k most) old new
+    → SaidPrefixOf (lines_behind run k most) old new
 lines_front run k zero most old new fewer said = front_none (lines_behind run k most) old new said
 lines_front run k (suc done) most old new fewer said =
     lines_more run k (suc done) most old new fewer
-    (front_behind (lines_behind run k done) (line_of run (suc (k + done))) old (old ++ lines_behind run k done) new refl said)
+    (front_behind (lines_behind run k done) (tick_line_of run (suc (k + done))) old (old ++ lines_behind run k done) new refl said)
 
 -- and nothing where there was none
 pub lines_none : (run : Run) (k done : ℕ) (old new : List ℕ) → done ≤ 0 → SaidLinesOf run k done old new → new ≡ old
@@ -169,7 +169,7 @@ snapshot_led {n = n} {h = h} {image = image} led some =
     let k = ticks_of (played n h) in
     let legs : k ≡ length (directions run.begin (take (length run.legs) run.legs)) =
     led.ended ∙ ap (λ (l : List ℕ). length (directions run.begin l)) (sym (take_all (length run.legs) run.legs (omega arith))) in
-    let due : IsDue run k = record { some = some; within = omega (arith, led.ended); due = inr (length run.legs, legs) } in
+    let due : IsDueAfter run k = record { some = some; within = omega (arith, led.ended); due = inr (length run.legs, legs) } in
     let finished = led.complete k due (omega arith) in
     let opened : IsOpened (image.file (snap_of k)) =
     record { more = omega (arith, finished.whole); open_gate = finished.opened } in

@@ -26,18 +26,18 @@ use Rattle.nb_engine.specs.Histories.{Run, legs_in, History, run_of, ticks_of, I
 use Rattle.nb_engine.specs.Represents.{snap_of, RepresentsRun, IsSoundImage}
 use Rattle.nb_engine.specs.Sessions.{GoLeads, ResumeLeads}
 use Rattle.nb_engine.specs.Start.{Start, HasStart, started, StartLeads}
-use Rattle.nb_engine.specs.Steps.{lines_behind, line_of, SaidFrontOf, SaidLinesOf, played, GoesOn}
+use Rattle.nb_engine.specs.Steps.{lines_behind, tick_line_of, SaidPrefixOf, SaidLinesOf, played, GoesOn}
 use Rattle.nb_engine.proofs.Callers.{run-ticked, ticks-ticked, run-legged, ticks-legged, history-played, represents_kept, started_history, leads_from_durable}
 use Rattle.nb_cli.specs.declared.stop.Stop.{Stop}
 use Rattle.nb_cli.specs.declared.stop.Stop.TheVariants as stop
 use Rattle.nb_cli.specs.declared.words.Job.{Job}
 use Rattle.nb_cli.specs.declared.words.Job.TheVariants as job
-use Rattle.nb_cli.specs.Telling.{LeadsThenTells}
+use Rattle.nb_cli.specs.Telling.{LeadsThenSays}
 use Rattle.nb_cli.specs.Once.{once_file}
-use Rattle.nb_cli.specs.Make.{made_start, IsMadeFrom, IsMakeUnderWay}
-use Rattle.nb_cli.specs.Demo.{CanDemo, demo_text, IsDemoUnderWay}
+use Rattle.nb_cli.specs.Make.{made_start, IsMadeFrom, IsMakePartlyDone}
+use Rattle.nb_cli.specs.Demo.{CanDemo, demo_text, IsDemoPartlyDone}
 use Rattle.nb_cli.specs.Words.{IsJob, IsNoCommand}
-use Rattle.nb_cli.specs.Answer.{IsUntouched, IsOncePartlyDone, IsJobPartlyDone, Touches, RunTouches, HasBegun, HasBegunOrNot, WasTold}
+use Rattle.nb_cli.specs.Answer.{IsUntouched, IsOncePartlyDone, IsJobPartlyDone, Touches, RunTouches, HasBegun, HasBegunOrNot, WasReported}
 use Rattle.nb_cli.specs.Worlds.{IsLater, KeepsSnapshots, TakesTicks, MayAdd, StartsDemo, MayStart, GoesFurther, start_files, IsLeftAlone, Extends, ExtendsOrNot}
 use Rattle.nb_cli.proofs.Commands.{one_job}
 use Rattle.nb_cli.proofs.DemoStages.{IsStartedOn, two_apart, kept_made, same_made, fresh_made, started_on}
@@ -58,14 +58,14 @@ grows_then : (old between new : List ℕ) → Grows old between → Grows betwee
 grows_then old between new first second =
     (first.0 ++ second.0, second.1 ∙ ap (λ (l : List ℕ). l ++ second.0) first.1 ∙ append_assoc old first.0 second.0)
 
-front_grows : (text old new : List ℕ) → SaidFrontOf text old new → Grows old new
+front_grows : (text old new : List ℕ) → SaidPrefixOf text old new → Grows old new
 front_grows text old new front = (take front.0 text, front.2)
 
 lines_grow : (run : Run) (k done : ℕ) (old new : List ℕ) → SaidLinesOf run k done old new → Grows old new
 lines_grow run k zero old new said = same_grows old new said
 lines_grow run k (suc n) old new said =
     let lines = lines_behind run k n in
-    let last = take said.0 (line_of run (suc (k + n))) in
+    let last = take said.0 (tick_line_of run (suc (k + n))) in
     (lines ++ last, said.2 ∙ append_assoc old lines last)
 
 -- ---- where the files are as they were
@@ -166,7 +166,7 @@ extends_told job old between new before files grows =
     }
 
 extends_then : (job : Job) {by : Image → Image → Type 0} {Did : Image → Image → List ℕ → Type 0} (old new : Image)
-    → ((between : Image) → by old between → Extends job old between) → LeadsThenTells by Did old new → Extends job old new
+    → ((between : Image) → by old between → Extends job old between) → LeadsThenSays by Did old new → Extends job old new
 extends_then job old new extends then =
     extends_told job old then.between new (extends then.between then.leads) then.files (elim then.told [
       | inl same ↦ same_grows (then.between.said channels.Out) (new.said channels.Out) same
@@ -332,7 +332,7 @@ no_init h image represents empty =
     let none : length (image.file init_file) ≡ 0 = ap length empty in
     omega (arith, long, none)
 
-make_extends : (seed count : ℕ) (old new : Image) → IsMakeUnderWay seed count old new → Extends (job.Make seed count) old new
+make_extends : (seed count : ℕ) (old new : Image) → IsMakePartlyDone seed count old new → Extends (job.Make seed count) old new
 make_extends seed count old new make = record {
   goes = λ h is represents. absurd (no_init h old represents make.can.init);
   starts = λ fresh. inl (subst IsFresh (sym (make.others journal_file (omega arith) (omega arith))) fresh);
@@ -402,7 +402,7 @@ demo_led seed count target old middle between new can begun leads files =
       }
     ]
 
-demo_starts : (seed count target : ℕ) (old new : Image) → IsDemoUnderWay true seed count target old new
+demo_starts : (seed count target : ℕ) (old new : Image) → IsDemoPartlyDone true seed count target old new
     → IsFresh (new.file journal_file) ⊎ StartsDemo seed count target old new
 demo_starts seed count target old new demo = elim demo.does [
   | inl making ↦ inl (subst IsFresh (sym (making.others journal_file (omega arith) (omega arith))) demo.can.fresh)
@@ -420,7 +420,7 @@ demo_starts seed count target old new demo = elim demo.does [
 
 -- files beside those of a run, which its ticks leave alone
 demo_beside : (seed count target number : ℕ) (old new : Image) → (8 ≤ number) × (number < 16)
-    → IsDemoUnderWay true seed count target old new → new.file number ≡ old.file number
+    → IsDemoPartlyDone true seed count target old new → new.file number ≡ old.file number
 demo_beside seed count target number old new beside demo = elim demo.does [
   | inl making ↦ making.others number (λ same. absurd (omega (arith, beside.0, same))) (λ same. absurd (omega (arith, beside.0, same)))
   | inr makes ↦
@@ -441,7 +441,7 @@ demo_beside seed count target number old new beside demo = elim demo.does [
   begins : {made : Image} (between : Image) → StartLeads true made between → between.file number ≡ made.file number
   begins between leads = leads.others.others number (start_apart number (inr (omega (arith, beside.0))))
 
-pub demo_extends : (seed count target : ℕ) (pace : Pace) (old new : Image) → IsDemoUnderWay true seed count target old new
+pub demo_extends : (seed count target : ℕ) (pace : Pace) (old new : Image) → IsDemoPartlyDone true seed count target old new
     → Extends (job.Demo seed count target pace) old new
 demo_extends seed count target pace old new demo = record {
   goes = λ h is represents. absurd (no_run h old demo.can.fresh represents);
@@ -529,7 +529,7 @@ why_told job start between image extends part =
 -- and where it is refused, and this is told
 pub refused_extends : {H : Type 0} (m : HostModel H) (words : List (List ℕ)) (job : Job) {why : Stop} {old middle new : H} {status : ℕ}
     → IsJob words job → (why ≡ stop.Words → IsNoCommand words) → IsSoundImage (m.contents old)
-    → HasBegunOrNot m words old middle why → WasTold m why middle new status → ExtendsOrNot m job old new status
+    → HasBegunOrNot m words old middle why → WasReported m why middle new status → ExtendsOrNot m job old new status
 refused_extends m words job is none_is sound (inl none) told = inl (
   leads_then none.0 told.spoke.leads (λ start image same. record {
     files = ap (λ (i : Image). i.file) same;

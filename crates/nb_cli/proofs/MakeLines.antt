@@ -9,11 +9,11 @@ use Rattle.nb_host.specs.Crashes.{Stays}
 use Rattle.nb_host.proofs.Callers.{goes_on, leads_before, leads_more}
 use Rattle.nb_format.specs.Lines.{made_line}
 use Rattle.nb_engine.specs.Files.{params_file, init_file}
-use Rattle.nb_engine.specs.Steps.{SaidFrontOf}
+use Rattle.nb_engine.specs.Steps.{SaidPrefixOf}
 use Rattle.nb_engine.proofs.Callers.{leads_from_durable}
 use Rattle.nb_cli.specs.declared.words.Job.TheVariants as job
 use Rattle.nb_cli.specs.Answer.{JobTouches}
-use Rattle.nb_cli.specs.Make.{HasMade, IsMadeFrom, IsMade, MakeLeads}
+use Rattle.nb_cli.specs.Make.{HasMade, IsMadeFrom, IsMakeDone, MakeLeads}
 use Rattle.nb_cli.proofs.Runs.{Out≢Err}
 
 neither : (number : ℕ) → number ≢ params_file → number ≢ init_file → Contains (params_file ∷ init_file ∷ []) number → ⊥
@@ -63,7 +63,7 @@ touched_by_line {seed = seed} {count = count} {old = old} {now = now} line is le
         whole = inr whole;
         others = λ number first second.
             ap (λ (f : ℕ → List ℕ). f number) part.2.files ∙ others_still leads number first second;
-        out = subst (λ (text : List ℕ). SaidFrontOf text (old.said channels.Out) (now.said channels.Out)) is
+        out = subst (λ (text : List ℕ). SaidPrefixOf text (old.said channels.Out) (now.said channels.Out)) is
             (part.0, part.1, part.2.said ∙ ap (λ (said : List ℕ). said ++ take part.0 line) out);
         said_last = inr whole;
       });
@@ -107,7 +107,7 @@ leads_line {H = H} {m = m} {honest = honest} {files = files} {seed = seed} {coun
 
 -- all of it is done
 pub made_told : {seed count : ℕ} {old middle new : Image} (line : List ℕ) → line ≡ made_line count → IsMadeFrom seed count old middle
-    → Says channels.Out line middle new → IsMade seed count old new
+    → Says channels.Out line middle new → IsMakeDone seed count old new
 made_told {seed = seed} {count = count} {old = old} line is made says = record {
   can = made.can;
   made = subst (λ (f : ℕ → List ℕ). HasMade seed count f) (sym says.files) made.made;

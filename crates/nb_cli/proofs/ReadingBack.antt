@@ -1,6 +1,7 @@
 -- Snapshots that are read back: what was read so far, and why it isn't what was written.
 use Rattle.std.proofs.Common.{ℤ, Bool, true, false, not, ◌&&◌, ◌==◌, ◌≡◌, ◌≢◌, ◌⊎◌, inl, inr, ℕ, zero, suc, ◌+◌, ◌*◌, ◌^◌, ◌<◌, ◌≤◌, IsTrue, Option, Some, Result, Err, List, [], ◌∷◌, ◌++◌, length, take, refl, sym, ap, subst, ◌∙◌, arith}
 use Rattle.std.proofs.Math.Bool.{beq}
+use Rattle.std.specs.List.{flat_map}
 use Rattle.std.specs.Ordering.{int_eq}
 use Rattle.std.specs.Cmp.{booleans_Decides}
 use Rattle.std.proofs.lemmas.Bool.{cases_lt}
@@ -11,6 +12,7 @@ use Rattle.std.proofs.lemmas.List.Elements.{recursion_from_All}
 use Rattle.nb_model.specs.declared.body.At.{At}
 use Rattle.nb_model.specs.declared.body.Body.{Body}
 use Rattle.nb_model.specs.declared.body.V3.{V3}
+use Rattle.nb_model.specs.Bytes.{body_bytes}
 use Rattle.nb_model.specs.Limits.{most_bodies}
 use Rattle.nb_host.specs.Crashes.{Stays}
 use Rattle.nb_host.specs.Meaning.{HostModel, Leads, Ran}
@@ -19,7 +21,7 @@ use Rattle.nb_format.specs.declared.snap_error.SnapError.{SnapError}
 use Rattle.nb_format.specs.declared.snap_error.SnapError.TheVariants as snap
 use Rattle.nb_format.specs.declared.snap_reader.SnapReader.{SnapReader}
 use Rattle.nb_format.specs.Reader.{file_of, count_of, time_of, read_count, IsAtStart, MayFollow, IsBehind, HasRead, IsOpenNow}
-use Rattle.nb_format.specs.Snapshot.{IsHeader, IsStoredBody, IsSnapshot}
+use Rattle.nb_format.specs.Snapshot.{header_bytes, snapshot_length, IsHeader, IsStoredBody, IsSnapshot}
 use Rattle.nb_format.specs.SnapshotRefusal.{snapshot_refusal, IsBySnapshot}
 use Rattle.nb_format.proofs.Reading.{read_header, read_records}
 use Rattle.nb_format.proofs.Snapshots.{records_front, snapshot_whole, snapshot_header, snapshot_records, one_header}
@@ -125,6 +127,17 @@ pub read_whole : {file : List ℕ} {bodies read : List Body} {time : ℕ} {reade
 read_whole {bodies = bodies} {read = read} has all is =
     let count = same_count has is in
     sym (take_all (length read) bodies (omega (arith, count, all))) ∙ read_front has (omega (arith, count, all)) is
+
+-- Where as many were read as the header tells, the file is their snapshot.
+pub read_all : {file : List ℕ} {bodies : List Body} {reader : SnapReader} → HasRead reader file bodies
+    → length bodies ≡ count_of reader → time_of reader < 2 ^ 64 → IsSnapshot file bodies (time_of reader)
+read_all {file = file} {bodies = bodies} {reader = reader} has all fits = record {
+  spelled =
+      sym (take_all (snapshot_length (length bodies)) file (omega (arith, has.whole, all))) ∙ has.begins
+      ∙ ap (λ (n : ℕ). header_bytes n (time_of reader) ++ flat_map body_bytes bodies) (sym all);
+  stored = has.stored;
+  fits = fits;
+}
 
 -- ---- what was read back so far
 

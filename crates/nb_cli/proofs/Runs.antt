@@ -25,9 +25,9 @@ use Rattle.nb_cli.specs.declared.words.Job.{Job}
 use Rattle.nb_cli.specs.declared.words.Job.TheVariants as job
 use Rattle.nb_engine.specs.Start.{Start}
 use Rattle.nb_cli.specs.Once.{once_file, once_ticks, list_at, IsOnceReady}
-use Rattle.nb_cli.specs.Done.{TellsOf, BecomesAny, MayWrite}
+use Rattle.nb_cli.specs.Done.{TellsOnce, BecomesAny, OnceLeads}
 use Rattle.nb_cli.specs.Show.{folder_text, show_text}
-use Rattle.nb_engine.specs.Steps.{SaidFrontOf}
+use Rattle.nb_engine.specs.Steps.{SaidPrefixOf}
 use Rattle.nb_cli.specs.Answer.{IsOncePartlyDone, JobTouches, JobBegins, JobBeginsOrNot, exactly, CountsRun, SyncsRun}
 
 pub Out≢Err : ◌≡◌ {A = Channel} channels.Err channels.Out → ⊥
@@ -39,19 +39,19 @@ line_at target start = once_line target (once_ticks target start) (escaped_count
 
 -- the line that was made of the answer is that of the start
 line_of-answer : {target : ℕ} {start : Start} {done : Done} (line : List ℕ) → line ≡ once_line done.time done.ticks done.gone
-    → TellsOf target start done → line ≡ line_at target start
+    → TellsOnce target start done → line ≡ line_at target start
 line_of-answer {target} {start} {done} line is tells =
     is ∙ ap (λ (t : ℕ). once_line t done.ticks done.gone) tells.time ∙ ap (λ (k : ℕ). once_line target k done.gone) tells.ticks
     ∙ ap (λ (n : ℕ). once_line target (once_ticks target start) n) tells.gone
 
 -- What `once` may have written.
 
-pub others_still : {files : ℕ → List ℕ} {target : ℕ} {old now : Image} → MayWrite files target old now → (number : ℕ)
+pub others_still : {files : ℕ → List ℕ} {target : ℕ} {old now : Image} → OnceLeads files target old now → (number : ℕ)
     → number ≢ once_file → now.file number ≡ old.file number
 others_still (inl same) number spared = ap (λ (image : Image). image.file number) same
 others_still (inr some) number spared = some.2.others number spared
 
-pub said_still : {files : ℕ → List ℕ} {target : ℕ} {old now : Image} → MayWrite files target old now → now.said ≡ old.said
+pub said_still : {files : ℕ → List ℕ} {target : ℕ} {old now : Image} → OnceLeads files target old now → now.said ≡ old.said
 said_still (inl same) = ap (λ (image : Image). image.said) same
 said_still (inr some) = some.2.said
 
@@ -66,7 +66,7 @@ within_file {old = old} changed =
       said_last = inl out;
     }
 
-pub touched_by_file : {honest : Bool} {files : ℕ → List ℕ} {target : ℕ} {old now : Image} → MayWrite files target old now
+pub touched_by_file : {honest : Bool} {files : ℕ → List ℕ} {target : ℕ} {old now : Image} → OnceLeads files target old now
     → JobTouches honest files (job.Once target) old now
 touched_by_file (inl same) =
     record { touches = inl same; err = ap (λ (image : Image). image.said channels.Err) same }
@@ -83,7 +83,7 @@ pub record IsToSay (files : ℕ → List ℕ) (target : ℕ) (line : List ℕ) (
   pub snapshot : IsSnapshot (now.file once_file) (list_at target start) target
 
 pub to_say : {target : ℕ} {old middle now : Image} {done : Done} (line : List ℕ) → middle ≡ old
-    → ((start : Start) × IsOnceReady middle.file target start × TellsOf target start done
+    → ((start : Start) × IsOnceReady middle.file target start × TellsOnce target start done
     × FileBecomes once_file (IsFinishedAs (list_at target start) target) middle now)
     → line ≡ once_line done.time done.ticks done.gone → IsToSay old.file target line now
 to_say {target = target} line same done is = record {
@@ -94,10 +94,10 @@ to_say {target = target} line same done is = record {
 }
 
 -- a front of it was said
-touched_by_line : {honest : Bool} {files : ℕ → List ℕ} {target : ℕ} {old middle now : Image} (line : List ℕ) → MayWrite files target old middle
+touched_by_line : {honest : Bool} {files : ℕ → List ℕ} {target : ℕ} {old middle now : Image} (line : List ℕ) → OnceLeads files target old middle
     → IsToSay files target line middle → SaysPart channels.Out line middle now → JobTouches honest files (job.Once target) old now
 touched_by_line {target = target} {old = old} {middle = middle} {now = now} line wrote tells part =
-    let P : List ℕ → Type 0 = λ text. SaidFrontOf text (old.said channels.Out) (now.said channels.Out) in
+    let P : List ℕ → Type 0 = λ text. SaidPrefixOf text (old.said channels.Out) (now.said channels.Out) in
     let Q : (ℕ → List ℕ) → Type 0 = λ files. IsSnapshot (files once_file) (list_at target tells.start) target in
     let out = ap (λ (f : Channel → List ℕ). f channels.Out) (said_still wrote) in
     record {
@@ -118,43 +118,43 @@ touched_by_line {target = target} {old = old} {middle = middle} {now = now} line
 
 -- so far nothing was written
 pub leads_none_written : {H : Type 0} {m : HostModel H} {files : ℕ → List ℕ} {target : ℕ} {old new : H} → Leads m Stays old new
-    → Leads m (MayWrite files target) old new
+    → Leads m (OnceLeads files target) old new
 leads_none_written stays = leads_more stays (λ start image same. inl same)
 
 -- the file is written where `once` can be done
 pub leads_written : {H : Type 0} {m : HostModel H} {files : ℕ → List ℕ} {target : ℕ} {old middle new : H} → Leads m Stays old middle
     → (IsTrue m.tells → (start : Start) × IsOnceReady files target start)
-    → Leads m (FileBecomes once_file BecomesAny) middle new → Leads m (MayWrite files target) old new
+    → Leads m (FileBecomes once_file BecomesAny) middle new → Leads m (OnceLeads files target) old new
 leads_written {m = m} {files = files} {target = target} {middle = middle} {new = new} stays ready wrote =
-    let later : Leads m (MayWrite files target) middle new = record {
+    let later : Leads m (OnceLeads files target) middle new = record {
       contents = λ told. let start = ready told in inr (start.0, start.1, wrote.contents told);
       images = record {
         follows = λ honest.
             let start = ready (m.tells_if_honest honest) in
-            (leads_more {T = MayWrite files target} wrote (λ before after becomes. inr (start.0, start.1, becomes))).images.follows honest;
+            (leads_more {T = OnceLeads files target} wrote (λ before after becomes. inr (start.0, start.1, becomes))).images.follows honest;
       };
     } in
     leads_before (λ image. inl refl) stays later
 
 -- the files are those from before calls that change nothing
 pub leads_from : {H : Type 0} {m : HostModel H} {target : ℕ} {old middle new : H} → m.contents middle ≡ m.contents old
-    → Leads m (MayWrite (m.contents middle).file target) middle new
-    → Leads m (MayWrite (m.contents old).file target) middle new
+    → Leads m (OnceLeads (m.contents middle).file target) middle new
+    → Leads m (OnceLeads (m.contents old).file target) middle new
 leads_from {m = m} {target = target} {middle = middle} {new = new} same leads =
-    subst (λ (i : Image). Leads m (MayWrite i.file target) middle new) same leads
+    subst (λ (i : Image). Leads m (OnceLeads i.file target) middle new) same leads
 
 -- behind the first sync
 pub leads_synced : {H : Type 0} {m : HostModel H} {files : ℕ → List ℕ} {target : ℕ} {old middle new : H} → Leads m Stays old middle
-    → Leads m (MayWrite files target) middle new → Leads m (MayWrite files target) old new
+    → Leads m (OnceLeads files target) middle new → Leads m (OnceLeads files target) old new
 leads_synced synced wrote = leads_before (λ image. inl refl) synced wrote
 
 pub leads_file : {H : Type 0} {m : HostModel H} {honest : Bool} {files : ℕ → List ℕ} {target : ℕ} {old new : H}
-    → Leads m (MayWrite files target) old new → Leads m (JobTouches honest files (job.Once target)) old new
+    → Leads m (OnceLeads files target) old new → Leads m (JobTouches honest files (job.Once target)) old new
 leads_file wrote = leads_more wrote (λ start image step. touched_by_file step)
 
 -- The line is said once the file is durable, so a front of it stands in no image in which the file isn't the snapshot.
 pub leads_line : {H : Type 0} {m : HostModel H} {honest : Bool} {files : ℕ → List ℕ} {target : ℕ} {old middle new : H} (line : List ℕ)
-    → Leads m (MayWrite files target) old middle → IsDurable m middle
+    → Leads m (OnceLeads files target) old middle → IsDurable m middle
     → (IsTrue m.tells → IsToSay files target line (m.contents middle)) → Leads m (SaysPart channels.Out line) middle new
     → Leads m (JobTouches honest files (job.Once target)) old new
 leads_line {m = m} {files = files} {target = target} line wrote durable tells said = record {
@@ -370,7 +370,7 @@ to_show {shown = shown} text same found is =
 shown_by_part : {honest : Bool} {files : ℕ → List ℕ} {old now : Image} (text : List ℕ) → IsToShow files text → SaysPart channels.Out text old now
     → JobTouches honest files job.Show old now
 shown_by_part {old = old} {now = now} text shows part =
-    let P : List ℕ → Type 0 = λ t. SaidFrontOf t (old.said channels.Out) (now.said channels.Out) in
+    let P : List ℕ → Type 0 = λ t. SaidPrefixOf t (old.said channels.Out) (now.said channels.Out) in
     record {
       touches = inr (
         shows.log,

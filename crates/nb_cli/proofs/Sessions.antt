@@ -23,7 +23,7 @@ use Rattle.nb_journal.specs.Entries.{Progress}
 use Rattle.nb_journal.specs.Form.{Log, IsJournal, progress_of}
 use Rattle.nb_journal.specs.Offsets.{journal_file}
 use Rattle.nb_cli.specs.declared.words.Job.TheVariants as job
-use Rattle.nb_cli.specs.Telling.{HasStarted, HasGone, HasResumed, IsDoneThenTold, LeadsThenTells}
+use Rattle.nb_cli.specs.Telling.{IsStartDone, IsGoDone, IsResumeDone, IsDoneThenSaid, LeadsThenSays}
 use Rattle.nb_cli.specs.Answer.{JobTouches, Syncs, of_begin, of_run, SyncsRun, CountsRun}
 use Rattle.nb_cli.proofs.Causes.{not_shown}
 use Rattle.nb_cli.proofs.Runs.{Out≢Err, said_answer, free_or_not}
@@ -32,7 +32,7 @@ use Rattle.nb_cli.proofs.Runs.{Out≢Err, said_answer, free_or_not}
 
 -- What a session may have changed at some moment, with its line. It says nothing on Err.
 pub record SessionTouches (by : Image → Image → Type 0) (Did : Image → Image → List ℕ → Type 0) (old new : Image) : Type 0 where
-  pub touches : LeadsThenTells by Did old new
+  pub touches : LeadsThenSays by Did old new
   pub err : new.said channels.Err ≡ old.said channels.Err
 
 module _ (by : Image → Image → Type 0) (Did : Image → Image → List ℕ → Type 0) (err_of : (old new : Image) → by old new → new.said channels.Err ≡ old.said channels.Err) where
@@ -87,7 +87,7 @@ module _ (by : Image → Image → Type 0) (Did : Image → Image → List ℕ �
 
 -- the line behind what is done
 pub session_done : (by : Image → Image → Type 0) (Did : Image → Image → List ℕ → Type 0) (line : List ℕ) {old middle new : Image}
-    → by old middle → Did old middle line → Says channels.Out line middle new → IsDoneThenTold by Did old new
+    → by old middle → Did old middle line → Says channels.Out line middle new → IsDoneThenSaid by Did old new
 session_done by Did line {middle = middle} leads did says = record {
   between = middle;
   leads = leads;
@@ -117,41 +117,41 @@ module _ {H : Type 0} (m : HostModel H) (files : ℕ → List ℕ) where
   pub start_touches : (pages : ℕ) {old new : H} → Leads m (StartLeads honest) old new
       → Leads m (JobTouches honest files (job.Start pages)) old new
   start_touches pages leads =
-      leads_more (session_leads (StartLeads honest) HasStarted (start_err honest) leads)
+      leads_more (session_leads (StartLeads honest) IsStartDone (start_err honest) leads)
       (λ old new step. record { touches = inr step.touches; err = step.err })
 
   pub start_told : (pages : ℕ) (line : List ℕ) {old middle new : H} → IsDurable m old → Leads m (StartLeads honest) old middle
-      → IsDurable m middle → (IsTrue m.tells → HasStarted (m.contents old) (m.contents middle) line)
+      → IsDurable m middle → (IsTrue m.tells → IsStartDone (m.contents old) (m.contents middle) line)
       → Leads m (SaysPart channels.Out line) middle new → Leads m (JobTouches honest files (job.Start pages)) old new
   start_told pages line before leads durable did said =
-      leads_more (session_told (StartLeads honest) HasStarted (start_err honest) line before leads durable did said)
+      leads_more (session_told (StartLeads honest) IsStartDone (start_err honest) line before leads durable did said)
       (λ old new step. record { touches = inr step.touches; err = step.err })
 
   pub go_touches : (target : ℕ) (pace : Pace) {old new : H} → Leads m (GoLeads honest target) old new
       → Leads m (JobTouches honest files (job.Go target pace)) old new
   go_touches target pace leads =
-      leads_more (session_leads (GoLeads honest target) (HasGone target) (go_err honest target) leads)
+      leads_more (session_leads (GoLeads honest target) (IsGoDone target) (go_err honest target) leads)
       (λ old new step. record { touches = inr step.touches; err = step.err })
 
   pub go_told : (target : ℕ) (pace : Pace) (line : List ℕ) {old middle new : H} → IsDurable m old
       → Leads m (GoLeads honest target) old middle → IsDurable m middle
-      → (IsTrue m.tells → HasGone target (m.contents old) (m.contents middle) line)
+      → (IsTrue m.tells → IsGoDone target (m.contents old) (m.contents middle) line)
       → Leads m (SaysPart channels.Out line) middle new → Leads m (JobTouches honest files (job.Go target pace)) old new
   go_told target pace line before leads durable did said =
-      leads_more (session_told (GoLeads honest target) (HasGone target) (go_err honest target) line before leads durable did said)
+      leads_more (session_told (GoLeads honest target) (IsGoDone target) (go_err honest target) line before leads durable did said)
       (λ old new step. record { touches = inr step.touches; err = step.err })
 
   pub resume_touches : (pace : Pace) {old new : H} → Leads m (ResumeLeads honest) old new
       → Leads m (JobTouches honest files (job.Resume pace)) old new
   resume_touches pace leads =
-      leads_more (session_leads (ResumeLeads honest) HasResumed (resume_err honest) leads)
+      leads_more (session_leads (ResumeLeads honest) IsResumeDone (resume_err honest) leads)
       (λ old new step. record { touches = inr step.touches; err = step.err })
 
   pub resume_told : (pace : Pace) (line : List ℕ) {old middle new : H} → IsDurable m old → Leads m (ResumeLeads honest) old middle
-      → IsDurable m middle → (IsTrue m.tells → HasResumed (m.contents old) (m.contents middle) line)
+      → IsDurable m middle → (IsTrue m.tells → IsResumeDone (m.contents old) (m.contents middle) line)
       → Leads m (SaysPart channels.Out line) middle new → Leads m (JobTouches honest files (job.Resume pace)) old new
   resume_told pace line before leads durable did said =
-      leads_more (session_told (ResumeLeads honest) HasResumed (resume_err honest) line before leads durable did said)
+      leads_more (session_told (ResumeLeads honest) IsResumeDone (resume_err honest) line before leads durable did said)
       (λ old new step. record { touches = inr step.touches; err = step.err })
 
 -- the line that was made of the answer of `start`

@@ -26,20 +26,20 @@ use Rattle.nb_journal.specs.Entries.{Progress, AreLawful, toward, progress_after
 use Rattle.nb_journal.specs.Form.{Log, IsFresh, IsJournal, IsCleanJournal, IsLawful, begun, progress_of}
 use Rattle.nb_journal.specs.Offsets.{journal_file}
 use Rattle.nb_journal.proofs.Callers.{fresh_alone}
-use Rattle.nb_engine.specs.Acknowledged.{IsToldUpTo, IsOtherText}
+use Rattle.nb_engine.specs.Acknowledged.{IsAcknowledgedUpTo, IsOtherText}
 use Rattle.nb_engine.specs.Files.{init_file}
 use Rattle.nb_engine.specs.Histories.{History, run_of, ticks_of, IsHistory}
 use Rattle.nb_engine.specs.Represents.{snap_of, RepresentsHistory, IsSoundImage}
 use Rattle.nb_engine.specs.Sessions.{GoLeads, ResumeLeads}
 use Rattle.nb_engine.specs.Start.{Start, started, StartLeads}
-use Rattle.nb_engine.specs.Steps.{played, GoesOn, SaidFrontOf}
+use Rattle.nb_engine.specs.Steps.{played, GoesOn, SaidPrefixOf}
 use Rattle.nb_engine.proofs.Callers.{LineTellsOne, told_goes, small_log, ticks-legged, told_other, append_is_other, started_is_other, done_is_other, once_is_other, folder_is_other, made_is_other, demo_is_other, params_are_other, spared, represents_kept, history-played, started_history, length-steps}
 use Rattle.nb_cli.specs.declared.words.Job.{Job}
 use Rattle.nb_cli.specs.declared.words.Job.TheVariants as job
-use Rattle.nb_cli.specs.Telling.{HasStarted, HasGone, HasResumed, IsDoneThenTold, LeadsThenTells}
+use Rattle.nb_cli.specs.Telling.{IsStartDone, IsGoDone, IsResumeDone, IsDoneThenSaid, LeadsThenSays}
 use Rattle.nb_cli.specs.Answer.{IsOncePartlyDone, IsJobPartlyDone, Touches}
-use Rattle.nb_cli.specs.Make.{IsMakeUnderWay}
-use Rattle.nb_cli.specs.Demo.{coordinate_sum, demo_list, summary_line, IsDemoUnderWay}
+use Rattle.nb_cli.specs.Make.{IsMakePartlyDone}
+use Rattle.nb_cli.specs.Demo.{coordinate_sum, demo_list, summary_line, IsDemoPartlyDone}
 use Rattle.nb_cli.proofs.Commands.{paced, once_fits}
 use Rattle.nb_cli.proofs.DemoStages.{IsLedOn, fresh_made, started_on, led_on}
 use Rattle.nb_cli.specs.Once.{once_file, once_ticks, list_at, IsOnceReady}
@@ -49,9 +49,9 @@ use Rattle.nb_cli.specs.Words.{IsJob}
 -- ---- what stays sound
 
 fresh_still : (old new : Image) → new.file journal_file ≡ old.file journal_file → new.said channels.Out ≡ old.said channels.Out
-    → IsFresh (old.file journal_file) × IsToldUpTo 0 (old.said channels.Out) → IsSoundImage new
+    → IsFresh (old.file journal_file) × IsAcknowledgedUpTo 0 (old.said channels.Out) → IsSoundImage new
 fresh_still old new file said fresh =
-    inl (subst IsFresh (sym file) fresh.0, subst (IsToldUpTo 0) (sym said) fresh.1)
+    inl (subst IsFresh (sym file) fresh.0, subst (IsAcknowledgedUpTo 0) (sym said) fresh.1)
 
 -- the files are as they were, and no more was told
 sound_same : {old new : Image} → new.file ≡ old.file → new.said channels.Out ≡ old.said channels.Out → IsSoundImage old
@@ -64,18 +64,18 @@ sound_same {old = old} {new = new} files said (inr run) =
       run.1,
       record {
         run = represents_kept run.0 old new run.2.run (at _) (at _) (at _) (λ j some within. at _);
-        told = subst (IsToldUpTo (ticks_of run.0)) (sym said) run.2.told;
+        told = subst (IsAcknowledgedUpTo (ticks_of run.0)) (sym said) run.2.told;
       },
     )
 
 -- No file changed but that of `once`, and a front of a text was said that tells of no tick.
 sound_beside : {old new : Image} {text : List ℕ} → IsOtherText text
     → ((number : ℕ) → number ≢ once_file → new.file number ≡ old.file number)
-    → SaidFrontOf text (old.said channels.Out) (new.said channels.Out) → IsSoundImage old → IsSoundImage new
+    → SaidPrefixOf text (old.said channels.Out) (new.said channels.Out) → IsSoundImage old → IsSoundImage new
 sound_beside {old = old} {new = new} {text = text} other files said (inl fresh) =
     inl (
       subst IsFresh (sym (files journal_file (omega arith))) fresh.0,
-      subst (IsToldUpTo 0) (sym said.2) (told_other 0 said.0 (old.said channels.Out) text other fresh.1),
+      subst (IsAcknowledgedUpTo 0) (sym said.2) (told_other 0 said.0 (old.said channels.Out) text other fresh.1),
     )
 sound_beside {old = old} {new = new} {text = text} other files said (inr run) =
     inr (
@@ -87,14 +87,14 @@ sound_beside {old = old} {new = new} {text = text} other files said (inr run) =
             (subst (IsCleanJournal run.0.log) (sym (files journal_file (omega arith))) run.2.run.journal)
             (files init_file (omega arith)) (files (3 + ticks_of run.0 % 2) (omega arith))
             (λ j some within. files (snap_of j) (omega arith));
-        told = subst (IsToldUpTo (ticks_of run.0)) (sym said.2)
+        told = subst (IsAcknowledgedUpTo (ticks_of run.0)) (sym said.2)
             (told_other (ticks_of run.0) said.0 (old.said channels.Out) text other run.2.told);
       },
     )
 
 -- The files are as they were, and a front of such a text was said.
 sound_said : {old new : Image} {text : List ℕ} → IsOtherText text → new.file ≡ old.file
-    → SaidFrontOf text (old.said channels.Out) (new.said channels.Out) → IsSoundImage old → IsSoundImage new
+    → SaidPrefixOf text (old.said channels.Out) (new.said channels.Out) → IsSoundImage old → IsSoundImage new
 sound_said other files said sound = sound_beside other (λ number apart. ap (λ (f : ℕ → List ℕ). f number) files) said sound
 
 -- ---- the sessions of a run
@@ -102,7 +102,7 @@ sound_said other files said sound = sound_beside other (λ number apart. ap (λ 
 -- calls that keep a folder sound, and then a front of a line that tells of no tick
 sound_then : {by : Image → Image → Type 0} {Did : Image → Image → List ℕ → Type 0} {old new : Image}
     → ((between : Image) → by old between → IsSoundImage between)
-    → ((between : Image) (line : List ℕ) → Did old between line → IsOtherText line) → LeadsThenTells by Did old new
+    → ((between : Image) (line : List ℕ) → Did old between line → IsOtherText line) → LeadsThenSays by Did old new
     → IsSoundImage new
 sound_then sound other then =
     let before = sound then.between then.leads in
@@ -111,20 +111,20 @@ sound_then sound other then =
       | inr some ↦ sound_said (other then.between some.0 some.1) then.files some.2 before
     ]
 
-sound_goes : LineTellsOne → {most : ℕ} {h : History} {old new : Image} → IsHistory h → IsToldUpTo (ticks_of h) (old.said channels.Out)
+sound_goes : LineTellsOne → {most : ℕ} {h : History} {old new : Image} → IsHistory h → IsAcknowledgedUpTo (ticks_of h) (old.said channels.Out)
     → GoesOn most h old new → IsSoundImage new
 sound_goes law {h = h} is told goes =
     inr (played goes.done h, history-played goes.done h is, record { run = goes.represents; told = told_goes law is told goes })
 
 sound_start : {old new : Image} → IsSoundImage old → StartLeads true old new → IsSoundImage new
 sound_start {old = old} {new = new} (inl fresh) leads = elim (leads.begins refl fresh.0) [
-  | inl still ↦ inl (still, subst (IsToldUpTo 0) (sym (ap (λ (f : Channel → List ℕ). f channels.Out) leads.others.said)) fresh.1)
+  | inl still ↦ inl (still, subst (IsAcknowledgedUpTo 0) (sym (ap (λ (f : Channel → List ℕ). f channels.Out) leads.others.said)) fresh.1)
   | inr run ↦ inr (
     started run.0,
     started_history old.file run.0 run.1.starts run.1.light,
     record {
       run = run.2;
-      told = subst (IsToldUpTo 0) (sym (ap (λ (f : Channel → List ℕ). f channels.Out) leads.others.said)) fresh.1;
+      told = subst (IsAcknowledgedUpTo 0) (sym (ap (λ (f : Channel → List ℕ). f channels.Out) leads.others.said)) fresh.1;
     },
   )
 ]
@@ -144,7 +144,7 @@ sound_go law {target = target} {old = old} (inr run) leads = elim (leads.goes re
   | inl goes ↦ sound_goes law run.1 run.2.told goes
   | inr goes ↦
       let here = sym (ticks-legged target run.0) in
-      sound_goes law goes.0 (subst (λ (k : ℕ). IsToldUpTo k (old.said channels.Out)) here run.2.told) goes.1
+      sound_goes law goes.0 (subst (λ (k : ℕ). IsAcknowledgedUpTo k (old.said channels.Out)) here run.2.told) goes.1
 ]
 
 sound_resume : LineTellsOne → {old new : Image} → IsSoundImage old → ResumeLeads true old new → IsSoundImage new
@@ -155,18 +155,18 @@ sound_resume law (inr run) leads = sound_goes law run.1 run.2.told (leads.goes r
 
 -- ---- each command
 
-told_start : {old between : Image} {line : List ℕ} → HasStarted old between line → IsOtherText line
+told_start : {old between : Image} {line : List ℕ} → IsStartDone old between line → IsOtherText line
 told_start did =
     let snapshot = did.ready.starts.snapshot in
     subst IsOtherText (sym did.line_is)
     (started_is_other (length did.start.bodies) did.start.time (omega (arith, snapshot.stored.count)) snapshot.fits)
 
-told_go : {target : ℕ} {old between : Image} {line : List ℕ} → HasGone target old between line → IsOtherText line
+told_go : {target : ℕ} {old between : Image} {line : List ℕ} → IsGoDone target old between line → IsOtherText line
 told_go did =
     subst IsOtherText (sym did.line_is)
     (done_is_other did.done.time did.done.ticks did.done.gone did.fits.time did.fits.ticks did.fits.gone)
 
-told_resume : {old between : Image} {line : List ℕ} → HasResumed old between line → IsOtherText line
+told_resume : {old between : Image} {line : List ℕ} → IsResumeDone old between line → IsOtherText line
 told_resume did =
     subst IsOtherText (sym did.line_is)
     (done_is_other did.done.time did.done.ticks did.done.gone did.fits.time did.fits.ticks did.fits.gone)
@@ -201,12 +201,12 @@ no_init {h = h} {image = image} run empty =
     let none : length (image.file init_file) ≡ 0 = ap length empty in
     omega (arith, long, none)
 
-sound_make : {seed count : ℕ} {old new : Image} → count ≤ most_bodies → IsMakeUnderWay seed count old new → IsSoundImage old
+sound_make : {seed count : ℕ} {old new : Image} → count ≤ most_bodies → IsMakePartlyDone seed count old new → IsSoundImage old
     → IsSoundImage new
 sound_make {count = count} {old = old} few make (inl fresh) =
     inl (
       subst IsFresh (sym (make.others journal_file (omega arith) (omega arith))) fresh.0,
-      subst (IsToldUpTo 0) (sym make.out.2)
+      subst (IsAcknowledgedUpTo 0) (sym make.out.2)
           (told_other 0 make.out.0 (old.said channels.Out) (made_line count) (made_is_other count (omega (arith, few))) fresh.1),
     )
 sound_make few make (inr run) = absurd (no_init run.2 make.can.init)
@@ -214,8 +214,8 @@ sound_make few make (inr run) = absurd (no_init run.2 make.can.init)
 -- ---- `demo`
 
 -- a session that is done and told is one that leads there and tells a front, all of it
-told_whole : {by : Image → Image → Type 0} {Did : Image → Image → List ℕ → Type 0} {old new : Image} → IsDoneThenTold by Did old new
-    → LeadsThenTells by Did old new
+told_whole : {by : Image → Image → Type 0} {Did : Image → Image → List ℕ → Type 0} {old new : Image} → IsDoneThenSaid by Did old new
+    → LeadsThenSays by Did old new
 told_whole told = record {
   between = told.between;
   leads = told.leads;
@@ -256,13 +256,13 @@ told_sum seed count target few stored =
     (small_sum bodies stored)
 
 pub sound_demo : LineTellsOne → (seed count target : ℕ) {old new : Image} → count ≤ most_bodies
-    → IsDemoUnderWay true seed count target old new → IsSoundImage old → IsSoundImage new
+    → IsDemoPartlyDone true seed count target old new → IsSoundImage old → IsSoundImage new
 sound_demo law seed count target {old = old} {new = new} few demo (inl fresh) = elim demo.does [
   | inl making ↦ fresh_still old new (making.others journal_file (omega arith) (omega arith)) making.out fresh
   | inr makes ↦
       let made : IsSoundImage makes.made = inl (
         fresh_made demo.can makes.makes,
-        subst (IsToldUpTo 0) (sym (ap (λ (f : Channel → List ℕ). f channels.Out) makes.makes.others.said)) fresh.1,
+        subst (IsAcknowledgedUpTo 0) (sym (ap (λ (f : Channel → List ℕ). f channels.Out) makes.makes.others.said)) fresh.1,
       ) in
       elim makes.next [
         | inl then ↦ sound_then (λ between leads. sound_start made leads) (λ between line did. told_start did) then

@@ -20,7 +20,7 @@ use Rattle.nb_engine.specs.Represents.{RepresentsRun}
 use Rattle.nb_engine.specs.Sessions.{IsBroughtUp}
 use Rattle.nb_engine.specs.Shown.{IsNotShown}
 use Rattle.nb_engine.specs.Start.{Start, IsStartReady}
-use Rattle.nb_engine.specs.Steps.{SaidFrontOf}
+use Rattle.nb_engine.specs.Steps.{SaidPrefixOf}
 use Rattle.nb_engine.specs.declared.refusal.Refusal.{Refusal}
 use Rattle.nb_engine.specs.declared.refusal.Refusal.TheVariants as refusal
 use Rattle.nb_cli.specs.declared.stop.Stop.{Stop}
@@ -32,10 +32,10 @@ use Rattle.nb_cli.specs.Stop.{status_of, stop_status, IsWithoutCause, IsSayable}
 use Rattle.nb_cli.specs.Once.{once_file, once_ticks, list_at}
 use Rattle.nb_cli.specs.Show.{show_text}
 use Rattle.nb_engine.specs.Files.{init_file}
-use Rattle.nb_cli.specs.Make.{HasMade, ParamsComeFirst, IsMaking, IsMakeUnderWay}
-use Rattle.nb_cli.specs.Telling.{HasGone, LeadsThenTells, TellsFront}
-use Rattle.nb_cli.specs.Demo.{demo_text, LeadsOn, StartsOn, IsDemoUnderWay}
-use Rattle.nb_cli.specs.Answer.{statuses, Yields, ComesWhere, ComesByCause, HasCause, HasCauseOf, HasSpoilt, IsSpoiltBy, IsJobReady, IsJobRefused, IsJobDone, IsJobPartlyDone, BringsUp, BringsUpWords, IsUntouched, IsLeftSo, LeavesAll, Touches, RunTouches, JobTouches, HasBegun, HasBegunOrNot, JobBegins, JobBeginsOrNot, WasTold}
+use Rattle.nb_cli.specs.Make.{HasMade, ParamsComeFirst, IsMaking, IsMakePartlyDone}
+use Rattle.nb_cli.specs.Telling.{IsGoDone, LeadsThenSays, SaysPrefix}
+use Rattle.nb_cli.specs.Demo.{demo_text, LeadsOn, StartsOn, IsDemoPartlyDone}
+use Rattle.nb_cli.specs.Answer.{statuses, Yields, ComesWhere, ComesByCause, HasCause, HasCauseOf, HasSpoilt, IsSpoiltBy, IsJobReady, IsJobRefused, IsJobDone, IsJobPartlyDone, BringsUp, BringsUpWords, IsUntouched, IsLeftSo, LeavesAll, Touches, RunTouches, JobTouches, HasBegun, HasBegunOrNot, JobBegins, JobBeginsOrNot, WasReported}
 use Rattle.nb_cli.proofs.Commands.{one_job}
 use Rattle.nb_cli.proofs.Causes.{IsCause, no_cause, one_cause, not_gone, not_shown, not_refused_job}
 use Rattle.nb_cli.proofs.Saying.{behind_answer, behind_kept}
@@ -66,13 +66,13 @@ pub record IsRefusal (words : List (List ℕ)) (old : Image) (why : Stop) (resul
   pub answer : (result ≡ stop_status why) ⊎ Yields result
   pub kept : Yields (stop_status why) → result ≡ stop_status why
 
-pub told_answer : {H : Type 0} {m : HostModel H} {why : Stop} {old new : H} {status : ℕ} → WasTold m why old new status
+pub told_answer : {H : Type 0} {m : HostModel H} {why : Stop} {old new : H} {status : ℕ} → WasReported m why old new status
     → (status ≡ stop_status why) ⊎ Yields status
 told_answer {why = why} told =
     subst (λ n. (n ≡ stop_status why) ⊎ Yields n) (sym told.status_is) (behind_answer why told.answer)
 
 pub refusal_told : {H : Type 0} {m : HostModel H} {words : List (List ℕ)} {image : Image} {why : Stop} {old new : H} {status : ℕ}
-    → IsReason words image.file why → WasTold m why old new status → IsRefusal words image why status
+    → IsReason words image.file why → WasReported m why old new status → IsRefusal words image why status
 refusal_told {why = why} cause told = record {
   cause = cause;
   answer = told_answer told;
@@ -208,7 +208,7 @@ same_reason : {T : Type 0} {a b : Stop} → ◌≡◌ {A = Result T Stop} (Err a
 same_reason same = cc
 
 -- what a refusal for want of memory answers stays so
-pub told_kept : {H : Type 0} {m : HostModel H} {why : Stop} {old new : H} {status : ℕ} → WasTold m why old new status
+pub told_kept : {H : Type 0} {m : HostModel H} {why : Stop} {old new : H} {status : ℕ} → WasReported m why old new status
     → Yields (stop_status why) → status ≡ stop_status why
 told_kept {why = why} told yields = told.status_is ∙ behind_kept why told.answer yields
 
@@ -246,7 +246,7 @@ Err≢Out same = cc
 
 -- what is said on Err behind a command changes nothing else
 then_told : {by : Image → Image → Type 0} {Did : Image → Image → List ℕ → Type 0} {old middle now : Image} {line : List ℕ}
-    → LeadsThenTells by Did old middle → SaysPart channels.Err line middle now → LeadsThenTells by Did old now
+    → LeadsThenSays by Did old middle → SaysPart channels.Err line middle now → LeadsThenSays by Did old now
 then_told {Did = Did} {old = old} then part =
     let spared = part.2.others channels.Out Err≢Out in
     record {
@@ -259,8 +259,8 @@ then_told {Did = Did} {old = old} then part =
       ];
     }
 
-make_told : {seed count : ℕ} {old middle now : Image} {line : List ℕ} → IsMakeUnderWay seed count old middle
-    → SaysPart channels.Err line middle now → IsMakeUnderWay seed count old now
+make_told : {seed count : ℕ} {old middle now : Image} {line : List ℕ} → IsMakePartlyDone seed count old middle
+    → SaysPart channels.Err line middle now → IsMakePartlyDone seed count old now
 make_told {seed} {count} {old} {middle} {now} make part =
     let spared = part.2.others channels.Out Err≢Out in
     record {
@@ -268,7 +268,7 @@ make_told {seed} {count} {old} {middle} {now} make part =
       first = subst (ParamsComeFirst count) (sym part.2.files) make.first;
       whole = subst (λ (f : ℕ → List ℕ). IsUnfinished (f init_file) ⊎ HasMade seed count f) (sym part.2.files) make.whole;
       others = λ number first second. ap (λ (f : ℕ → List ℕ). f number) part.2.files ∙ make.others number first second;
-      out = subst (λ (said : List ℕ). SaidFrontOf (made_line count) (old.said channels.Out) said) (sym spared) make.out;
+      out = subst (λ (said : List ℕ). SaidPrefixOf (made_line count) (old.said channels.Out) said) (sym spared) make.out;
       said_last = elim make.said_last [
         | inl same ↦ inl (spared ∙ same)
         | inr made ↦ inr (subst (λ (f : ℕ → List ℕ). HasMade seed count f) (sym part.2.files) made)
@@ -276,11 +276,11 @@ make_told {seed} {count} {old} {middle} {now} make part =
     }
 
 -- the same behind `demo`, however far it came
-front_told : {text : List ℕ} {old middle now : Image} {line : List ℕ} → TellsFront text old middle
-    → SaysPart channels.Err line middle now → TellsFront text old now
+front_told : {text : List ℕ} {old middle now : Image} {line : List ℕ} → SaysPrefix text old middle
+    → SaysPart channels.Err line middle now → SaysPrefix text old now
 front_told {text = text} {old = old} front part = record {
   files = part.2.files ∙ front.files;
-  out = subst (λ (said : List ℕ). SaidFrontOf text (old.said channels.Out) said) (sym (part.2.others channels.Out Err≢Out)) front.out;
+  out = subst (λ (said : List ℕ). SaidPrefixOf text (old.said channels.Out) said) (sym (part.2.others channels.Out Err≢Out)) front.out;
 }
 
 leading_told : (honest : Bool) (seed count target : ℕ) {old middle now : Image} {line : List ℕ}
@@ -306,8 +306,8 @@ making_told {seed = seed} {count = count} making part = record {
 }
 
 demo_told : (honest : Bool) (seed count target : ℕ) {old middle now : Image} {line : List ℕ}
-    → IsDemoUnderWay honest seed count target old middle → SaysPart channels.Err line middle now
-    → IsDemoUnderWay honest seed count target old now
+    → IsDemoPartlyDone honest seed count target old middle → SaysPart channels.Err line middle now
+    → IsDemoPartlyDone honest seed count target old now
 demo_told honest seed count target {old = old} demo part = record {
   can = demo.can;
   does = elim demo.does [
@@ -319,7 +319,7 @@ demo_told honest seed count target {old = old} demo part = record {
     })
   ];
   out = λ is_honest.
-      subst (λ (said : List ℕ). SaidFrontOf (demo_text seed count target) (old.said channels.Out) said)
+      subst (λ (said : List ℕ). SaidPrefixOf (demo_text seed count target) (old.said channels.Out) said)
       (sym (part.2.others channels.Out Err≢Out)) (demo.out is_honest);
 }
 
@@ -332,7 +332,7 @@ partly_told honest files (job.Once target) old {middle = middle} {now = now} som
     let start = some.0 in
     let within = some.2 in
     let spared = part.2.others channels.Out Err≢Out in
-    let P : List ℕ → Type 0 = λ said. SaidFrontOf (once_line target (once_ticks target start) (escaped_count (list_at target start))) (old.said channels.Out) said in
+    let P : List ℕ → Type 0 = λ said. SaidPrefixOf (once_line target (once_ticks target start) (escaped_count (list_at target start))) (old.said channels.Out) said in
     let Q : List ℕ → (ℕ → List ℕ) → Type 0 = λ said files. (said ≡ old.said channels.Out) ⊎ IsSnapshot (files once_file) (list_at target start) target in (
       start,
       some.1,
@@ -343,7 +343,7 @@ partly_told honest files (job.Once target) old {middle = middle} {now = now} som
       },
     )
 partly_told honest files job.Show old some part =
-    let P : List ℕ → Type 0 = λ said. SaidFrontOf (show_text some.0) (old.said channels.Out) said in (
+    let P : List ℕ → Type 0 = λ said. SaidPrefixOf (show_text some.0) (old.said channels.Out) said in (
       some.0,
       some.1,
       record {
@@ -367,7 +367,7 @@ touches_told {honest = honest} {files = files} {old = old} (inr some) part =
 
 -- nothing was said, where what is told can't be done
 not_told : {by : Image → Image → Type 0} {Did : Image → Image → List ℕ → Type 0} {old now : Image}
-    (then : LeadsThenTells by Did old now) → ((between : Image) (line : List ℕ) → Did old between line → ⊥)
+    (then : LeadsThenSays by Did old now) → ((between : Image) (line : List ℕ) → Did old between line → ⊥)
     → now.said channels.Out ≡ then.between.said channels.Out
 not_told then never = elim then.told [
   | inl same ↦ same
@@ -375,7 +375,7 @@ not_told then never = elim then.told [
 ]
 
 untouched_by : {by : Image → Image → Type 0} {Did : Image → Image → List ℕ → Type 0} {old now : Image}
-    (then : LeadsThenTells by Did old now) → ((between : Image) (line : List ℕ) → Did old between line → ⊥) → then.between ≡ old
+    (then : LeadsThenSays by Did old now) → ((between : Image) (line : List ℕ) → Did old between line → ⊥) → then.between ≡ old
     → IsUntouched old now
 untouched_by then never same = record {
   files = then.files ∙ ap (λ (image : Image). image.file) same;
@@ -396,7 +396,7 @@ left_so honest (job.Go target pace) old now why then (inl none) =
     inl (untouched_by then (λ between line did. not_gone old.file target did.could (inl none)) (then.leads.session.idle (no_journal old none)))
 left_so honest (job.Go target pace) old now why then (inr none) =
     let left = then.leads.still none.0 none.1 (inl (why, none.2)) in
-    let never = λ (between : Image) (line : List ℕ) (did : HasGone target old between line). not_gone old.file target did.could (inr none) in
+    let never = λ (between : Image) (line : List ℕ) (did : IsGoDone target old between line). not_gone old.file target did.could (inr none) in
     inr (
       none.0,
       none.1,
@@ -517,7 +517,7 @@ pub leads_run : {H : Type 0} {m : HostModel H} {honest : Bool} {words : List (Li
 leads_run run = leads_more run (λ start image step. step.touches)
 
 pub leads_told : {H : Type 0} {m : HostModel H} {honest : Bool} {words : List (List ℕ)} {files : ℕ → List ℕ} {why : Stop}
-    {old middle new : H} {status : ℕ} → Leads m (RunTouches honest words files) old middle → WasTold m why middle new status
+    {old middle new : H} {status : ℕ} → Leads m (RunTouches honest words files) old middle → WasReported m why middle new status
     → Leads m (Touches honest words files) old new
 leads_told {honest = honest} {words = words} {files = files} run told =
     leads_then run told.spoke.leads (λ start image step. step.touches)

@@ -17,7 +17,7 @@ use Rattle.nb_engine.specs.Refusal.{of_host, NeedsNoCause}
 use Rattle.nb_engine.specs.Represents.{snap_of}
 use Rattle.nb_engine.specs.Sessions.{GoLeads, ResumeLeads, IsBroughtUp, IsGoRefused, IsOfLeg, CanGo, CanResume, IsSlotSpoilt}
 use Rattle.nb_engine.specs.Shown.{IsNotShown}
-use Rattle.nb_engine.specs.Steps.{SaidFrontOf}
+use Rattle.nb_engine.specs.Steps.{SaidPrefixOf}
 use Rattle.nb_cli.specs.declared.stop.Stop.{Stop}
 use Rattle.nb_cli.specs.declared.stop.Stop.TheVariants as stop
 use Rattle.nb_cli.specs.declared.words.Job.{Job}
@@ -28,9 +28,9 @@ use Rattle.nb_engine.specs.Snapshots.{snapshot_files}
 use Rattle.nb_engine.specs.Start.{Start, IsStartReady, IsStartRefused, StartLeads}
 use Rattle.nb_cli.specs.Once.{once_file, once_ticks, list_at, IsOnceReady, IsOnceRefused}
 use Rattle.nb_cli.specs.Show.{show_text}
-use Rattle.nb_cli.specs.Make.{CanMake, IsThere, IsMade, IsMakeUnderWay, make_syncs}
-use Rattle.nb_cli.specs.Telling.{HasStarted, HasGone, HasResumed, IsDoneThenTold, LeadsThenTells}
-use Rattle.nb_cli.specs.Demo.{CanDemo, IsDemoRefused, IsDemoDone, IsDemoUnderWay}
+use Rattle.nb_cli.specs.Make.{CanMake, IsThere, IsMakeDone, IsMakePartlyDone, make_syncs}
+use Rattle.nb_cli.specs.Telling.{IsStartDone, IsGoDone, IsResumeDone, IsDoneThenSaid, LeadsThenSays}
+use Rattle.nb_cli.specs.Demo.{CanDemo, IsDemoRefused, IsDemoDone, IsDemoPartlyDone}
 
 -- the statuses of the program: 0 where the command was done, 1 where the words are none, and those of the refusals
 abbrev pub statuses : List ℕ
@@ -109,41 +109,41 @@ pub record IsOnceDone (target : ℕ) (start : Start) (old new : Image) : Type 0 
 -- is said before the file is the snapshot.
 pub record IsOncePartlyDone (target : ℕ) (start : Start) (old new : Image) : Type 0 where
   pub others : (number : ℕ) → number ≢ once_file → new.file number ≡ old.file number
-  pub out : SaidFrontOf (once_line target (once_ticks target start) (escaped_count (list_at target start))) (old.said channels.Out) (new.said channels.Out)
+  pub out : SaidPrefixOf (once_line target (once_ticks target start) (escaped_count (list_at target start))) (old.said channels.Out) (new.said channels.Out)
   pub said_last : (new.said channels.Out ≡ old.said channels.Out) ⊎ IsSnapshot (new.file once_file) (list_at target start) target
 
 -- `show` is done: the journal's text was said, and nothing else changed.
-pub record IsShown (log : Log) (old new : Image) : Type 0 where
+pub record IsShowDone (log : Log) (old new : Image) : Type 0 where
   pub files : new.file ≡ old.file
   pub out : new.said channels.Out ≡ old.said channels.Out ++ show_text log
   pub err : new.said channels.Err ≡ old.said channels.Err
 
 -- What `show` may have changed at some moment, done or not: no file, and a front of its text on Out.
-pub record IsPartlyShown (log : Log) (old new : Image) : Type 0 where
+pub record IsShowPartlyDone (log : Log) (old new : Image) : Type 0 where
   pub files : new.file ≡ old.file
-  pub out : SaidFrontOf (show_text log) (old.said channels.Out) (new.said channels.Out)
+  pub out : SaidPrefixOf (show_text log) (old.said channels.Out) (new.said channels.Out)
 
 -- ---- all commands
 
 -- A command is done. What `start`, `go`, `resume` and `demo` may change is said of an honest host in full.
 abbrev pub IsJobDone : Bool → Job → Image → Image → Type 0
-IsJobDone honest (job.Start pages) old new = IsDoneThenTold (StartLeads honest) HasStarted old new
-IsJobDone honest (job.Go target pace) old new = IsDoneThenTold (GoLeads honest target) (HasGone target) old new
-IsJobDone honest (job.Resume pace) old new = IsDoneThenTold (ResumeLeads honest) HasResumed old new
+IsJobDone honest (job.Start pages) old new = IsDoneThenSaid (StartLeads honest) IsStartDone old new
+IsJobDone honest (job.Go target pace) old new = IsDoneThenSaid (GoLeads honest target) (IsGoDone target) old new
+IsJobDone honest (job.Resume pace) old new = IsDoneThenSaid (ResumeLeads honest) IsResumeDone old new
 IsJobDone honest (job.Once target) old new = (start : Start) × IsOnceReady old.file target start × IsOnceDone target start old new
-IsJobDone honest job.Show old new = (log : Log) × IsJournal log (old.file journal_file) × IsShown log old new
-IsJobDone honest (job.Make seed count) old new = IsMade seed count old new
+IsJobDone honest job.Show old new = (log : Log) × IsJournal log (old.file journal_file) × IsShowDone log old new
+IsJobDone honest (job.Make seed count) old new = IsMakeDone seed count old new
 IsJobDone honest (job.Demo seed count target pace) old new = IsDemoDone honest seed count target old new
 
 -- What a command, where the files were these, may have changed at some moment, done or not.
 abbrev pub IsJobPartlyDone : Bool → (ℕ → List ℕ) → Job → Image → Image → Type 0
-IsJobPartlyDone honest files (job.Start pages) old new = LeadsThenTells (StartLeads honest) HasStarted old new
-IsJobPartlyDone honest files (job.Go target pace) old new = LeadsThenTells (GoLeads honest target) (HasGone target) old new
-IsJobPartlyDone honest files (job.Resume pace) old new = LeadsThenTells (ResumeLeads honest) HasResumed old new
+IsJobPartlyDone honest files (job.Start pages) old new = LeadsThenSays (StartLeads honest) IsStartDone old new
+IsJobPartlyDone honest files (job.Go target pace) old new = LeadsThenSays (GoLeads honest target) (IsGoDone target) old new
+IsJobPartlyDone honest files (job.Resume pace) old new = LeadsThenSays (ResumeLeads honest) IsResumeDone old new
 IsJobPartlyDone honest files (job.Once target) old new = (start : Start) × IsOnceReady files target start × IsOncePartlyDone target start old new
-IsJobPartlyDone honest files job.Show old new = (log : Log) × IsJournal log (files journal_file) × IsPartlyShown log old new
-IsJobPartlyDone honest files (job.Make seed count) old new = IsMakeUnderWay seed count old new
-IsJobPartlyDone honest files (job.Demo seed count target pace) old new = IsDemoUnderWay honest seed count target old new
+IsJobPartlyDone honest files job.Show old new = (log : Log) × IsJournal log (files journal_file) × IsShowPartlyDone log old new
+IsJobPartlyDone honest files (job.Make seed count) old new = IsMakePartlyDone seed count old new
+IsJobPartlyDone honest files (job.Demo seed count target pace) old new = IsDemoPartlyDone honest seed count target old new
 
 -- Nothing changed but what was said on Err.
 pub record IsUntouched (old new : Image) : Type 0 where
@@ -289,7 +289,7 @@ status_behind (stop.Refused refusal.NoMemory) (Err _) = stop_status (stop.Refuse
 status_behind why (Err error) = stop_status (stop.Refused (of_host error))
 
 -- A refusal was told: its line was said on Err, by one call, and this is the status.
-pub record WasTold {H : Type 0} (m : HostModel H) (why : Stop) (old new : H) (status : ℕ) : Type 0 where
+pub record WasReported {H : Type 0} (m : HostModel H) (why : Stop) (old new : H) (status : ℕ) : Type 0 where
   pub answer : Result (Unit {0}) HostError
   pub spoke : Spoke m channels.Err (stop_line why) old new answer
   pub status_is : status ≡ status_behind why answer
@@ -313,4 +313,4 @@ pub record WasRefused {H : Type 0} (m : HostModel H) (words : List (List ℕ)) (
   pub run : HasBegunOrNot m words old ended why
   pub brought : BringsUpWords m words old ended why
   pub counts : CountsWords m words old ended (Err why)
-  pub told : WasTold m why ended new status
+  pub told : WasReported m why ended new status

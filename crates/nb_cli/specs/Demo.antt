@@ -21,10 +21,10 @@ use Rattle.nb_engine.specs.Represents.{RepresentsRun}
 use Rattle.nb_engine.specs.declared.going.Done.{Done}
 use Rattle.nb_engine.specs.Sessions.{aimed_at, IsLed, GoLeads}
 use Rattle.nb_engine.specs.Start.{started, StartLeads}
-use Rattle.nb_engine.specs.Steps.{SaidFrontOf, lines_behind, played}
+use Rattle.nb_engine.specs.Steps.{SaidPrefixOf, lines_behind, played}
 use Rattle.nb_cli.specs.Once.{list_at}
 use Rattle.nb_cli.specs.Make.{made_start, CanMake, IsThere, IsMadeFrom, IsMaking, HasMade}
-use Rattle.nb_cli.specs.Telling.{HasStarted, HasGone, IsDoneThenTold, LeadsThenTells, TellsFront}
+use Rattle.nb_cli.specs.Telling.{IsStartDone, IsGoDone, IsDoneThenSaid, LeadsThenSays, SaysPrefix}
 
 -- ---- when it can be done
 
@@ -92,7 +92,7 @@ pub record MakesThen (seed count : ℕ) (Next : Image → Image → Type 0) (old
 -- A session was done and told, and the next thing is done behind it.
 pub record DoesThen (by : Image → Image → Type 0) (Did : Image → Image → List ℕ → Type 0) (Next : Image → Image → Type 0) (old new : Image) : Type 0 where
   pub between : Image
-  pub does : IsDoneThenTold by Did old between
+  pub does : IsDoneThenSaid by Did old between
   pub next : Next between new
 
 -- The run was led to the target as `go` leads it, and no file changed behind that. So all snapshots that are due are finished, and
@@ -109,8 +109,8 @@ pub record IsDemoLed (seed count target : ℕ) (new : Image) : Type 0 where
 pub record IsDemoDone (honest : Bool) (seed count target : ℕ) (old new : Image) : Type 0 where
   pub can : CanDemo old.file target
   pub does : MakesThen seed count
-      (DoesThen (StartLeads honest) HasStarted
-      (DoesThen (GoLeads honest target) (HasGone target)
+      (DoesThen (StartLeads honest) IsStartDone
+      (DoesThen (GoLeads honest target) (IsGoDone target)
       (Says channels.Out (summary_line seed count target)))) old new
   pub made : HasMade seed count new.file
   pub represents : RepresentsRun (played target (demo_history seed count target)) new
@@ -122,23 +122,23 @@ pub record IsDemoDone (honest : Bool) (seed count target : ℕ) (old new : Image
 -- it; or saying the last line. Each of these came behind what is before it.
 abbrev pub LeadsOn : Bool → ℕ → ℕ → ℕ → Image → Image → Type 0
 LeadsOn honest seed count target old new =
-    LeadsThenTells (GoLeads honest target) (HasGone target) old new
-    ⊎ DoesThen (GoLeads honest target) (HasGone target) (TellsFront (summary_line seed count target)) old new
+    LeadsThenSays (GoLeads honest target) (IsGoDone target) old new
+    ⊎ DoesThen (GoLeads honest target) (IsGoDone target) (SaysPrefix (summary_line seed count target)) old new
 
 abbrev pub StartsOn : Bool → ℕ → ℕ → ℕ → Image → Image → Type 0
 StartsOn honest seed count target old new =
-    LeadsThenTells (StartLeads honest) HasStarted old new
-    ⊎ DoesThen (StartLeads honest) HasStarted (LeadsOn honest seed count target) old new
+    LeadsThenSays (StartLeads honest) IsStartDone old new
+    ⊎ DoesThen (StartLeads honest) IsStartDone (LeadsOn honest seed count target) old new
 
 -- Of an honest host what was said is a front of the text.
-pub record IsDemoUnderWay (honest : Bool) (seed count target : ℕ) (old new : Image) : Type 0 where
+pub record IsDemoPartlyDone (honest : Bool) (seed count target : ℕ) (old new : Image) : Type 0 where
   pub can : CanDemo old.file target
   pub does : IsMaking seed count old new ⊎ MakesThen seed count (StartsOn honest seed count target) old new
-  pub out : IsTrue honest → SaidFrontOf (demo_text seed count target) (old.said channels.Out) (new.said channels.Out)
+  pub out : IsTrue honest → SaidPrefixOf (demo_text seed count target) (old.said channels.Out) (new.said channels.Out)
 
 -- What `demo` may have changed at some moment, done or not: nothing, or that, where it can be done. It says nothing on Err.
 pub record DemoLeads (honest : Bool) (seed count target : ℕ) (old new : Image) : Type 0 where
-  pub leads : (new ≡ old) ⊎ IsDemoUnderWay honest seed count target old new
+  pub leads : (new ≡ old) ⊎ IsDemoPartlyDone honest seed count target old new
   pub err : new.said channels.Err ≡ old.said channels.Err
 
 -- ---- over hosts that don't return what was written

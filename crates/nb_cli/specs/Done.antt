@@ -7,7 +7,7 @@ use Rattle.nb_engine.specs.Start.{Start}
 use Rattle.nb_cli.specs.Once.{once_file, once_ticks, list_at, IsOnceReady}
 
 -- The answer tells the target, the ticks from the start to it, and how many bodies have left the box there.
-pub record TellsOf (target : ℕ) (start : Start) (done : Done) : Type 0 where
+pub record TellsOnce (target : ℕ) (start : Start) (done : Done) : Type 0 where
   pub time : done.time ≡ target
   pub ticks : done.ticks ≡ once_ticks target start
   pub gone : done.gone ≡ escaped_count (list_at target start)
@@ -18,6 +18,6 @@ BecomesAny old new = ⊤
 
 -- What a call of `once` may have changed at some moment, where the files were these: nothing, or its own file, where it can
 -- be done.
-abbrev pub MayWrite : (ℕ → List ℕ) → ℕ → Image → Image → Type 0
-MayWrite files target old new =
+abbrev pub OnceLeads : (ℕ → List ℕ) → ℕ → Image → Image → Type 0
+OnceLeads files target old new =
     (new ≡ old) ⊎ ((start : Start) × IsOnceReady files target start × FileBecomes once_file BecomesAny old new)

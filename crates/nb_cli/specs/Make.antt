@@ -14,7 +14,7 @@ use Rattle.nb_engine.specs.declared.refusal.Refusal.{Refusal}
 use Rattle.nb_engine.specs.declared.refusal.Refusal.TheVariants as refusal
 use Rattle.nb_engine.specs.Files.{params_file, init_file}
 use Rattle.nb_engine.specs.Start.{Start}
-use Rattle.nb_engine.specs.Steps.{SaidFrontOf}
+use Rattle.nb_engine.specs.Steps.{SaidPrefixOf}
 
 -- ---- what is made
 
@@ -145,7 +145,7 @@ make_syncs = 5
 -- ---- the command, with its line
 
 -- `make` is done: the two files were made, its line was said, and nothing else changed.
-pub record IsMade (seed count : ℕ) (old new : Image) : Type 0 where
+pub record IsMakeDone (seed count : ℕ) (old new : Image) : Type 0 where
   pub can : CanMake old.file
   pub made : HasMade seed count new.file
   pub others : (number : ℕ) → number ≢ params_file → number ≢ init_file → new.file number ≡ old.file number
@@ -154,10 +154,10 @@ pub record IsMade (seed count : ℕ) (old new : Image) : Type 0 where
 
 -- What the command may have changed at some moment, done or not: the two files, and a front of its line on Out, of which
 -- nothing is said before both are whole.
-pub record IsMakeUnderWay (seed count : ℕ) (old new : Image) : Type 0 where
+pub record IsMakePartlyDone (seed count : ℕ) (old new : Image) : Type 0 where
   pub can : CanMake old.file
   pub first : ParamsComeFirst count new.file
   pub whole : IsUnfinished (new.file init_file) ⊎ HasMade seed count new.file
   pub others : (number : ℕ) → number ≢ params_file → number ≢ init_file → new.file number ≡ old.file number
-  pub out : SaidFrontOf (made_line count) (old.said channels.Out) (new.said channels.Out)
+  pub out : SaidPrefixOf (made_line count) (old.said channels.Out) (new.said channels.Out)
   pub said_last : (new.said channels.Out ≡ old.said channels.Out) ⊎ HasMade seed count new.file

@@ -24,19 +24,19 @@ status_of (refusal.Damaged _) = 12
 status_of refusal.NoMemory = 13
 
 -- the line of a refusal on Err
-abbrev pub line_of : Refusal → List ℕ
-line_of (refusal.Params error) = params_text error
-line_of (refusal.Snapshot error) = snapshot_text error
-line_of (refusal.TooHeavy grav mass) = heavy_text grav mass
-line_of refusal.NotStarted = not_started_text
-line_of refusal.Started = already_text
-line_of (refusal.LegOpen target time) = leg_text target time
-line_of (refusal.TickLimit ticks) = limit_text ticks
-line_of refusal.InitThere = there_text
-line_of (refusal.TooMany count) = many_text count
-line_of refusal.Device = device_text
-line_of (refusal.Damaged place) = damaged_text place.file place.page
-line_of refusal.NoMemory = memory_text
+abbrev pub line_of_refusal : Refusal → List ℕ
+line_of_refusal (refusal.Params error) = params_text error
+line_of_refusal (refusal.Snapshot error) = snapshot_text error
+line_of_refusal (refusal.TooHeavy grav mass) = heavy_text grav mass
+line_of_refusal refusal.NotStarted = not_started_text
+line_of_refusal refusal.Started = already_text
+line_of_refusal (refusal.LegOpen target time) = leg_text target time
+line_of_refusal (refusal.TickLimit ticks) = limit_text ticks
+line_of_refusal refusal.InitThere = there_text
+line_of_refusal (refusal.TooMany count) = many_text count
+line_of_refusal refusal.Device = device_text
+line_of_refusal (refusal.Damaged place) = damaged_text place.file place.page
+line_of_refusal refusal.NoMemory = memory_text
 
 -- the exit status
 abbrev pub stop_status : Stop → ℕ
@@ -46,7 +46,7 @@ stop_status (stop.Refused why) = status_of why
 -- the line on Err
 abbrev pub stop_line : Stop → List ℕ
 stop_line stop.Words = words_text
-stop_line (stop.Refused why) = line_of why
+stop_line (stop.Refused why) = line_of_refusal why
 
 -- a device fault, or want of memory: neither needs a cause in the words and the files
 abbrev pub IsWithoutCause : Stop → Type 0

@@ -9,16 +9,16 @@ use Rattle.nb_engine.specs.declared.going.Done.{Done}
 use Rattle.nb_engine.specs.Histories.{History, IsHistory}
 use Rattle.nb_engine.specs.Represents.{RepresentsRun}
 use Rattle.nb_engine.specs.Sessions.{ticks_left, aimed_at, ticks_to, IsLed, CanGo, CanResume}
-use Rattle.nb_engine.specs.Start.{Start, IsStartReady, IsBegun}
-use Rattle.nb_engine.specs.Steps.{SaidFrontOf}
+use Rattle.nb_engine.specs.Start.{Start, IsStartReady, RepresentsStart}
+use Rattle.nb_engine.specs.Steps.{SaidPrefixOf}
 
 -- ---- what they do
 
 -- `start` is done: the folder represents the run that it starts, and this is its line.
-pub record HasStarted (old new : Image) (line : List ℕ) : Type 0 where
+pub record IsStartDone (old new : Image) (line : List ℕ) : Type 0 where
   pub start : Start
   pub ready : IsStartReady old.file start
-  pub begun : IsBegun start new
+  pub begun : RepresentsStart start new
   pub line_is : line ≡ started_line (length start.bodies) start.time
 
 -- numbers of 64 bits, as in every answer
@@ -28,7 +28,7 @@ pub record IsInWords (done : Done) : Type 0 where
   pub gone : done.gone < 2 ^ 64
 
 -- `go` is done: what the folder represented was led to the target, and this is its line.
-pub record HasGone (target : ℕ) (old new : Image) (line : List ℕ) : Type 0 where
+pub record IsGoDone (target : ℕ) (old new : Image) (line : List ℕ) : Type 0 where
   pub done : Done
   pub fits : IsInWords done
   pub there : done.time ≡ target
@@ -37,7 +37,7 @@ pub record HasGone (target : ℕ) (old new : Image) (line : List ℕ) : Type 0 w
   pub line_is : line ≡ done_line done.time done.ticks done.gone
 
 -- `resume` is done: what the folder represented was led to the end of its last leg, and this is its line.
-pub record HasResumed (old new : Image) (line : List ℕ) : Type 0 where
+pub record IsResumeDone (old new : Image) (line : List ℕ) : Type 0 where
   pub done : Done
   pub fits : IsInWords done
   pub there : (log : Log) → IsJournal log (old.file journal_file) → done.time ≡ (progress_of log).target
@@ -46,7 +46,7 @@ pub record HasResumed (old new : Image) (line : List ℕ) : Type 0 where
   pub line_is : line ≡ done_line done.time done.ticks done.gone
 
 -- Calls led so, and this is done; then its line was said.
-pub record IsDoneThenTold (by : Image → Image → Type 0) (Did : Image → Image → List ℕ → Type 0) (old new : Image) : Type 0 where
+pub record IsDoneThenSaid (by : Image → Image → Type 0) (Did : Image → Image → List ℕ → Type 0) (old new : Image) : Type 0 where
   pub between : Image
   pub leads : by old between
   pub line : List ℕ
@@ -56,20 +56,20 @@ pub record IsDoneThenTold (by : Image → Image → Type 0) (Did : Image → Ima
   pub err : new.said channels.Err ≡ between.said channels.Err
 
 -- Calls lead so, done or not; and a front of a line is said only behind what is done, which it tells.
-pub record LeadsThenTells (by : Image → Image → Type 0) (Did : Image → Image → List ℕ → Type 0) (old new : Image) : Type 0 where
+pub record LeadsThenSays (by : Image → Image → Type 0) (Did : Image → Image → List ℕ → Type 0) (old new : Image) : Type 0 where
   pub between : Image
   pub leads : by old between
   pub files : new.file ≡ between.file
   pub told : (new.said channels.Out ≡ between.said channels.Out)
       ⊎ ((line : List ℕ) × Did old between line
-      × SaidFrontOf line (between.said channels.Out) (new.said channels.Out))
+      × SaidPrefixOf line (between.said channels.Out) (new.said channels.Out))
 
 -- Calls lead so, and say nothing on Err.
-pub record TellsOut (by : Image → Image → Type 0) (old new : Image) : Type 0 where
+pub record LeadsWithoutErr (by : Image → Image → Type 0) (old new : Image) : Type 0 where
   pub leads : by old new
   pub err : new.said channels.Err ≡ old.said channels.Err
 
 -- A front of a text was said on Out, and no file changed.
-pub record TellsFront (text : List ℕ) (old new : Image) : Type 0 where
+pub record SaysPrefix (text : List ℕ) (old new : Image) : Type 0 where
   pub files : new.file ≡ old.file
-  pub out : SaidFrontOf text (old.said channels.Out) (new.said channels.Out)
+  pub out : SaidPrefixOf text (old.said channels.Out) (new.said channels.Out)

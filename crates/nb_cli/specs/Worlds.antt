@@ -8,7 +8,7 @@ use Rattle.nb_host.specs.Meaning.{HostModel, IsDurable, Leads}
 use Rattle.nb_format.specs.Snapshot.{IsFinishedSnapshot}
 use Rattle.nb_journal.specs.Form.{IsFresh}
 use Rattle.nb_journal.specs.Offsets.{journal_file}
-use Rattle.nb_engine.specs.Acknowledged.{IsToldUpTo}
+use Rattle.nb_engine.specs.Acknowledged.{IsAcknowledgedUpTo}
 use Rattle.nb_engine.specs.Frame.{IsApart, EachImage}
 use Rattle.nb_engine.specs.Histories.{legs_in, History, ticks_of, IsHistory}
 use Rattle.nb_engine.specs.Represents.{snap_of, RepresentsRun, RepresentsHistory, IsSoundImage}
@@ -163,7 +163,7 @@ IsAmong (x ∷ xs) (y ∷ all) = ((x ≡ y) × IsAmong xs all) ⊎ IsAmong (x �
 -- No run is started, and no tick was told.
 pub record IsNew (image : Image) : Type 0 where
   pub fresh : IsFresh (image.file journal_file)
-  pub untold : IsToldUpTo 0 (image.said channels.Out)
+  pub untold : IsAcknowledgedUpTo 0 (image.said channels.Out)
 
 -- What sessions leave of a run that one before them had left.
 pub record Lasts (h : History) (old new : Image) : Type 0 where

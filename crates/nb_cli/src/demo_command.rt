@@ -18,10 +18,10 @@ ghost use Rattle.nb_engine.specs.Histories.{IsHistory};
 ghost use Rattle.nb_engine.specs.Refusal.{NeedsNoCause};
 ghost use Rattle.nb_engine.specs.Represents.{snap_of, RepresentsRun};
 ghost use Rattle.nb_engine.specs.Sessions.{IsPace, ticks_to, GoLeads};
-ghost use Rattle.nb_engine.specs.Start.{Start, started, StartLeads};
+ghost use Rattle.nb_engine.specs.Start.{Start, HasStart, started, StartLeads};
 ghost use Rattle.nb_cli.specs.Once.{list_at};
-ghost use Rattle.nb_cli.specs.Make.{HasMade};
-ghost use Rattle.nb_cli.specs.Telling.{HasStarted, HasGone, IsDoneThenTold, TellsOut, LeadsThenTells};
+ghost use Rattle.nb_cli.specs.Make.{made_bodies, made_start, HasMade};
+ghost use Rattle.nb_cli.specs.Telling.{IsStartDone, IsGoDone, IsDoneThenSaid, LeadsWithoutErr, LeadsThenSays};
 ghost use Rattle.nb_cli.specs.Demo.{CanDemo, IsDemoRefused, IsOfDemo, demo_list, coordinate_sum, IsDemoDone, DemoLeads, of_reading_back, place_of as place_of_error, start_behind_make as start_refusal, go_behind_start as go_refusal, IsUnlike};
 
 use crate::generator::{Generator, made_params};
@@ -103,6 +103,8 @@ fn find_nothing<H: Host>(host: &mut H, target: u64) -> Result<(), Refusal>
 /// Finds that both files read as they were made. It only reads.
 fn find_made<H: Host>(alloc: Global, host: &mut H, seed: u64, count: u64) -> Result<(), Refusal>
     requires { count ≤ most_bodies }
+    ensures found { OnOk result (IsTrue H.meaning.tells
+        → HasStart (H.meaning.contents host.old).file (made_start seed count)) }
     ensures cause { IfErr result (λ why. IsTrue H.meaning.tells
         → HasMade seed count (H.meaning.contents host.old).file → NeedsNoCause why) }
     ensures refusals { IfErr result IsOfDemo }
@@ -121,6 +123,8 @@ fn find_made<H: Host>(alloc: Global, host: &mut H, seed: u64, count: u64) -> Res
 /// Finds that the initial snapshot reads as it was made. It only reads.
 fn find_bodies<H: Host>(host: &mut H, seed: u64, count: u64) -> Result<(), Refusal>
     requires { count ≤ most_bodies }
+    ensures found { OnOk result (IsTrue H.meaning.tells
+        → IsSnapshot ((H.meaning.contents host.old).file init_file) (made_bodies seed count) 0) }
     ensures cause { IfErr result (λ why. NeedsNoCause why
         ⊎ IsUnlike H.meaning init_file (HasMade seed count (H.meaning.contents host.old).file) why) }
     ensures ran { Ran H.meaning Refusal.Device Stays host.old host.new result }
@@ -145,8 +149,8 @@ fn start_made<H: Host>(alloc: Global, host: &mut H, count: u64, pages: u64) -> R
     requires least { 4 ≤ pages }
     requires most { pages ≤ 2 ^ 18 }
     requires durable { IsDurable H.meaning host.old }
-    ensures done { OnOk result (IsTrue H.meaning.tells → IsDoneThenTold
-        (StartLeads H.meaning.crashes.is_honest) HasStarted
+    ensures done { OnOk result (IsTrue H.meaning.tells → IsDoneThenSaid
+        (StartLeads H.meaning.crashes.is_honest) IsStartDone
         (H.meaning.contents host.old) (H.meaning.contents host.new)) }
     ensures durable { OnOk result (IsDurable H.meaning host.new) }
     ensures cause { IfErr result (λ why. IsTrue H.meaning.tells → (seed : ℕ)
@@ -154,7 +158,7 @@ fn start_made<H: Host>(alloc: Global, host: &mut H, count: u64, pages: u64) -> R
         → IsFresh ((H.meaning.contents host.old).file journal_file) → NeedsNoCause why) }
     ensures refusals { IfErr result IsOfDemo }
     ensures ran { RanSession H.meaning
-        (TellsOut (LeadsThenTells (StartLeads H.meaning.crashes.is_honest) HasStarted)) host.old host.new result }
+        (LeadsWithoutErr (LeadsThenSays (StartLeads H.meaning.crashes.is_honest) IsStartDone)) host.old host.new result }
 {
     let begun = match start(alloc, host, pages) {
         Ok(begun) => begun,
@@ -172,8 +176,8 @@ fn start_made<H: Host>(alloc: Global, host: &mut H, count: u64, pages: u64) -> R
 fn lead_made<H: Host>(alloc: Global, host: &mut H, target: u64, pace: Pace) -> Result<Done, Refusal>
     requires pace { IsPace pace }
     requires durable { IsDurable H.meaning host.old }
-    ensures done { OnOk result (IsTrue H.meaning.tells → IsDoneThenTold
-        (GoLeads H.meaning.crashes.is_honest target) (HasGone target)
+    ensures done { OnOk result (IsTrue H.meaning.tells → IsDoneThenSaid
+        (GoLeads H.meaning.crashes.is_honest target) (IsGoDone target)
         (H.meaning.contents host.old) (H.meaning.contents host.new)) }
     ensures gone { IfOk result (λ done. IsTrue H.meaning.tells → (start : Start) → IsHistory (started start)
         → RepresentsRun (started start) (H.meaning.contents host.old)
@@ -184,7 +188,7 @@ fn lead_made<H: Host>(alloc: Global, host: &mut H, target: u64, pace: Pace) -> R
         → ticks_to target (started start) ≤ most_ticks → NeedsNoCause why) }
     ensures refusals { IfErr result IsOfDemo }
     ensures ran { RanSession H.meaning
-        (TellsOut (LeadsThenTells (GoLeads H.meaning.crashes.is_honest target) (HasGone target)))
+        (LeadsWithoutErr (LeadsThenSays (GoLeads H.meaning.crashes.is_honest target) (IsGoDone target)))
         host.old host.new result }
 {
     let done = match go(alloc, host, pace, target) {

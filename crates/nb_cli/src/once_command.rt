@@ -14,7 +14,7 @@ ghost use Rattle.nb_engine.specs.Refusal.{NeedsNoCause};
 ghost use Rattle.nb_engine.specs.Start.{Start, start_refusal as refusal_of_start};
 ghost use Rattle.nb_cli.specs.Once.{once_file, most_once_bodies, once_ticks, list_at, once_refusal as refusal_of_once, IsOnceReady, IsOfOnce, IsOnceRefused};
 ghost use Rattle.nb_cli.specs.Answer.{once_syncs};
-ghost use Rattle.nb_cli.specs.Done.{TellsOf, BecomesAny, MayWrite};
+ghost use Rattle.nb_cli.specs.Done.{TellsOnce, BecomesAny, OnceLeads};
 
 use crate::init_file::read_bodies;
 use nb_engine::{INIT_FILE, Refusal, parameters, survey};
@@ -45,7 +45,7 @@ pub struct Done {
 pub fn once<H: Host>(alloc: Global, host: &mut H, target: u64) -> Result<Done, Refusal>
     // What each answer says of the files as they were.
     ensures done { IfOk result (λ done. IsTrue H.meaning.tells
-        → (start : Start) × IsOnceReady (H.meaning.contents host.old).file target start × TellsOf target start done
+        → (start : Start) × IsOnceReady (H.meaning.contents host.old).file target start × TellsOnce target start done
         × FileBecomes once_file (IsFinishedAs (list_at target start) target)
         (H.meaning.contents host.old) (H.meaning.contents host.new)) }
     ensures cause { IfErr result (λ why. IsTrue H.meaning.tells
@@ -57,7 +57,7 @@ pub fn once<H: Host>(alloc: Global, host: &mut H, target: u64) -> Result<Done, R
     ensures unsynced { IfErr result (λ why. (NeedsNoCause why → ⊥)
         → H.meaning.tally host.new ≡ H.meaning.tally host.old) }
     ensures ran { RanSyncing H.meaning once_syncs Refusal.Device
-        (MayWrite (H.meaning.contents host.old).file target) host.old host.new result }
+        (OnceLeads (H.meaning.contents host.old).file target) host.old host.new result }
 {
     let params = parameters(alloc, host)?;
     let reader = SnapReader::begin(host, INIT_FILE)?;

@@ -13,7 +13,7 @@ ghost use Rattle.nb_engine.specs.declared.refusal.Refusal.TheVariants as refusal
 ghost use Rattle.nb_cli.specs.Words.{IsJob, IsPaced, IsNoCommand};
 ghost use Rattle.nb_cli.specs.Worlds.{ExtendsOrNot};
 ghost use Rattle.nb_cli.specs.Stop.{IsGiven, IsSayable, IsWithoutCause};
-ghost use Rattle.nb_cli.specs.Answer.{statuses, Yields, ComesWhere, ComesByCause, HasCause, HasSpoilt, IsSpoiltBy, IsJobReady, IsJobRefused, IsJobSpoilt, IsJobDone, LeavesAll, Touches, CountsRun, CountsWords, syncs_of, HasBegun, HasBegunOrNot, JobBegins, JobBeginsOrNot, HasDone, BringsUp, BringsUpWords, WasTold, WasRefused};
+ghost use Rattle.nb_cli.specs.Answer.{statuses, Yields, ComesWhere, ComesByCause, HasCause, HasSpoilt, IsSpoiltBy, IsJobReady, IsJobRefused, IsJobSpoilt, IsJobDone, LeavesAll, Touches, CountsRun, CountsWords, syncs_of, HasBegun, HasBegunOrNot, JobBegins, JobBeginsOrNot, HasDone, BringsUp, BringsUpWords, WasReported, WasRefused};
 
 use crate::demo_command::demo;
 use crate::make_command::make;
@@ -276,7 +276,7 @@ fn run_demo<H: Host>(
 /// are.
 fn say_why<H: Host>(host: &mut H, why: Stop) -> u8
     requires { IsSayable why }
-    ensures { WasTold H.meaning why host.old host.new result }
+    ensures { WasReported H.meaning why host.old host.new result }
 {
     let line = why.line();
     let Err(error) = host.say(Channel::Err, line.bytes()) else {

@@ -15,9 +15,9 @@ use Rattle.nb_journal.specs.declared.entry.Entry.{Entry}
 use Rattle.nb_journal.specs.declared.entry.Entry.TheVariants.{Leg, Tick}
 use Rattle.nb_journal.specs.Entries.{Progress, AreLawful, toward, progress_after, after_all}
 use Rattle.nb_journal.specs.Form.{Log, IsLawful, begun, progress_of}
-use Rattle.nb_engine.specs.Acknowledged.{IsToldUpTo}
+use Rattle.nb_engine.specs.Acknowledged.{IsAcknowledgedUpTo}
 use Rattle.nb_engine.specs.Histories.{Run, state_of, time_of, History, run_of, ticks_of, IsHistory, next_tick}
-use Rattle.nb_engine.specs.Steps.{line_of, lines_behind, SaidLinesOf, played, GoesOn}
+use Rattle.nb_engine.specs.Steps.{tick_line_of, lines_behind, SaidLinesOf, played, GoesOn}
 use Rattle.nb_engine.proofs.DueNow.{lawful_before}
 use Rattle.nb_engine.proofs.Paths.{time-now}
 use Rattle.nb_engine.proofs.Played.{run-played, ticks-played}
@@ -61,7 +61,7 @@ small_log log lawful =
 -- what is known of the line of a tick
 abbrev pub LineTellsOne : Type 0
 LineTellsOne = (k time gone n : ℕ) (said : List ℕ) → k < 2 ^ 64 → time < 2 ^ 64 → gone < 2 ^ 64
-    → IsToldUpTo k said → IsToldUpTo k (said ++ take n (tick_line k time gone))
+    → IsAcknowledgedUpTo k said → IsAcknowledgedUpTo k (said ++ take n (tick_line k time gone))
 
 few_gone : (h : History) (k : ℕ) → IsHistory h → IsLawful h.log → escaped_count (state_of (run_of h) k) < 2 ^ 64
 few_gone h k is lawful =
@@ -71,8 +71,8 @@ few_gone h k is lawful =
 
 -- Behind the ticks before, a front of the line of one more acknowledges no tick beyond it.
 told_next : LineTellsOne → (n m : ℕ) (h : History) (said : List ℕ) → IsHistory h → IsLawful h.log → IsLawful (played (suc n) h).log
-    → IsToldUpTo (ticks_of (played n h)) said
-    → IsToldUpTo (ticks_of (played (suc n) h)) (said ++ take m (line_of (run_of h) (suc (ticks_of h + n))))
+    → IsAcknowledgedUpTo (ticks_of (played n h)) said
+    → IsAcknowledgedUpTo (ticks_of (played (suc n) h)) (said ++ take m (tick_line_of (run_of h) (suc (ticks_of h + n))))
 told_next law n m h said is lawful after told =
     let last = played (suc n) h in
     let run = run_of h in
@@ -81,33 +81,33 @@ told_next law n m h said is lawful after told =
     let time : (progress_of last.log).time ≡ time_of run k =
     time-now last after ∙ ap (λ (r : Run). time_of r (ticks_of last)) (run-played (suc n) h) ∙ ap (time_of run) number in
     let small = small_log last.log after in
-    subst (λ (j : ℕ). IsToldUpTo j (said ++ take m (line_of run k))) (sym number)
+    subst (λ (j : ℕ). IsAcknowledgedUpTo j (said ++ take m (tick_line_of run k))) (sym number)
     (law k (time_of run k) (escaped_count (state_of run k)) m said (omega (arith, number, small.ticks))
     (subst (λ (t : ℕ). t < 2 ^ 64) time small.time) (few_gone h k is lawful)
     (told_more (ticks_of (played n h)) k said (omega (arith, ticks-played n h)) told))
 
 -- the lines of so many ticks
 told_lines : LineTellsOne → (n : ℕ) (h : History) (old : List ℕ) → IsHistory h → IsLawful h.log → IsLawful (played n h).log
-    → IsToldUpTo (ticks_of h) old
-    → IsToldUpTo (ticks_of (played n h)) (old ++ lines_behind (run_of h) (ticks_of h) n)
-told_lines law zero h old is lawful after told = subst (IsToldUpTo (ticks_of h)) (sym (append-nil old)) told
+    → IsAcknowledgedUpTo (ticks_of h) old
+    → IsAcknowledgedUpTo (ticks_of (played n h)) (old ++ lines_behind (run_of h) (ticks_of h) n)
+told_lines law zero h old is lawful after told = subst (IsAcknowledgedUpTo (ticks_of h)) (sym (append-nil old)) told
 told_lines law (suc n) h old is lawful after told =
     let lines = lines_behind (run_of h) (ticks_of h) n in
-    let line = line_of (run_of h) (suc (ticks_of h + n)) in
+    let line = tick_line_of (run_of h) (suc (ticks_of h + n)) in
     let before = lawful_before (played n h) (next_tick (played n h)) after in
     let next = told_next law n (length line) h (old ++ lines) is lawful after (told_lines law n h old is lawful before told) in
     let whole : (old ++ lines) ++ take (length line) line ≡ old ++ (lines ++ line) =
     ap (λ (l : List ℕ). (old ++ lines) ++ l) (take-length line) ∙ append_assoc old lines line in
-    subst (IsToldUpTo (ticks_of (played (suc n) h))) whole next
+    subst (IsAcknowledgedUpTo (ticks_of (played (suc n) h))) whole next
 
 -- and those that were said of them
 told_said : LineTellsOne → (n : ℕ) (h : History) (old new : List ℕ) → IsHistory h → IsLawful h.log → IsLawful (played n h).log
-    → IsToldUpTo (ticks_of h) old → SaidLinesOf (run_of h) (ticks_of h) n old new → IsToldUpTo (ticks_of (played n h)) new
-told_said law zero h old new is lawful after told said = subst (IsToldUpTo (ticks_of h)) (sym said) told
+    → IsAcknowledgedUpTo (ticks_of h) old → SaidLinesOf (run_of h) (ticks_of h) n old new → IsAcknowledgedUpTo (ticks_of (played n h)) new
+told_said law zero h old new is lawful after told said = subst (IsAcknowledgedUpTo (ticks_of h)) (sym said) told
 told_said law (suc n) h old new is lawful after told said =
     let lines = lines_behind (run_of h) (ticks_of h) n in
     let before = lawful_before (played n h) (next_tick (played n h)) after in
-    subst (IsToldUpTo (ticks_of (played (suc n) h))) (sym said.2)
+    subst (IsAcknowledgedUpTo (ticks_of (played (suc n) h))) (sym said.2)
     (told_next law n said.0 h (old ++ lines) is lawful after (told_lines law n h old is lawful before told))
 
 lawful_first : (n : ℕ) (h : History) → IsLawful (played n h).log → IsLawful h.log
@@ -116,8 +116,8 @@ lawful_first (suc n) h lawful = lawful_first n h (lawful_before (played n h) (ne
 
 -- No tick is acknowledged but those of the history as far as it has gone.
 pub told_goes : LineTellsOne → {most : ℕ} {h : History} {before image : Image} → IsHistory h
-    → IsToldUpTo (ticks_of h) (before.said channels.Out) → (goes : GoesOn most h before image)
-    → IsToldUpTo (ticks_of (played goes.done h)) (image.said channels.Out)
+    → IsAcknowledgedUpTo (ticks_of h) (before.said channels.Out) → (goes : GoesOn most h before image)
+    → IsAcknowledgedUpTo (ticks_of (played goes.done h)) (image.said channels.Out)
 told_goes law {h = h} {before = before} {image = image} is told goes =
     let after = goes.represents.journal.journal.lawful in
     told_said law goes.done h (before.said channels.Out) (image.said channels.Out) is (lawful_first goes.done h after) after told goes.said

@@ -29,7 +29,7 @@ use Rattle.nb_engine.specs.Refusal.{NeedsNoCause}
 use Rattle.nb_engine.specs.Sessions.{ticks_left, aimed_at, ticks_to, IsLed, OpenLeads, GoLeads, IsNoLeg, IsOfLeg, CanGo, IsSlotSpoilt}
 use Rattle.nb_engine.specs.Shown.{IsOfShow}
 use Rattle.nb_engine.specs.Snapshots.{snapshot_files}
-use Rattle.nb_engine.specs.Steps.{played, IsAt, IsSettled, GoesOn, HasPlayed, IsUpToDate, HasState, IsSpoilt}
+use Rattle.nb_engine.specs.Steps.{played, IsCheckpoint, IsFlushed, GoesOn, HasPlayed, IsUpToDate, HasState, IsSpoilt}
 use Rattle.nb_engine.proofs.EachImages.{each_then, each_told}
 use Rattle.nb_engine.proofs.GoingOn.{IsStanding, Went, go_on, leg_each, leg_at, leg_date, leg_kept, leg_others, leg_said, leg_goes}
 use Rattle.nb_engine.proofs.Led.{SnapshotIsBack, led, led_here, led_away, left_of_leg}
@@ -65,7 +65,7 @@ open_apart leads = leads_more leads (λ start image step. step.session.apart)
 
 -- the cache stays as it is through an entry
 pub settled_journal : {H : Type 0} {m : HostModel H} {P : List ℕ → List ℕ → Type 0} {cache : CacheValue} {old new : H}
-    → Leads m (FileBecomes journal_file P) old new → IsSettled m cache old → IsSettled m cache new
+    → Leads m (FileBecomes journal_file P) old new → IsFlushed m cache old → IsFlushed m cache new
 settled_journal {cache = cache} leads settled = record {
   in_step = step_file cache (λ cached. absurd (omega (arith, cached.least))) leads settled.in_step;
   unwritten = settled.unwritten;
@@ -177,12 +177,12 @@ module _ {H : Type 0} (m : HostModel H) (target : ℕ) {h0 h1 : H} (journal : Co
         others2 : IsTrue m.tells → AgreesOutside (journal_file ∷ []) (m.contents h1) (m.contents h2)
         others2 tells = becomes_agrees (leads2.contents tells)
 
-        behind_leg : IsTrue m.tells → (s : IsStanding first) → IsAt m (legged target s.h) journal2 h2 × IsUpToDate m (legged target s.h) h2
+        behind_leg : IsTrue m.tells → (s : IsStanding first) → IsCheckpoint m (legged target s.h) journal2 h2 × IsUpToDate m (legged target s.h) h2
         behind_leg tells s =
             let has = begun tells s.h s.is s.represents in
             let clean = added s.h.log has.0.at.answers tells has.0.at.represents.journal in
             let at = leg_at m target s.h first journal has.0 has.1 next clean durable2 (others2 tells) in (
-              subst (λ (c : Counters). IsAt m (legged target s.h) c h2) (sym is2) at,
+              subst (λ (c : Counters). IsCheckpoint m (legged target s.h) c h2) (sym is2) at,
               leg_date m target s.h first journal has.0 has.1 next clean durable2 (others2 tells),
             )
 
@@ -192,7 +192,7 @@ module _ {H : Type 0} (m : HostModel H) (target : ℕ) {h0 h1 : H} (journal : Co
             ap (λ (c : Counters). ticks_left c.progress) is2 ∙ left_of_leg target s.h journal has.0.at.answers
 
         -- the leg was run, or some of it
-        pub went_on : {h3 : H} → Leads m KeepsApart h2 h3 → ((h : History) → IsAt m h journal2 h2 → IsUpToDate m h h2
+        pub went_on : {h3 : H} → Leads m KeepsApart h2 h3 → ((h : History) → IsCheckpoint m h journal2 h2 → IsUpToDate m h h2
             → EachImage m (GoesOn (ticks_left journal2.progress) h (m.contents h2)) h2 h3)
             → Leads m (GoLeads m.crashes.is_honest target) h0 h3
         went_on {h3 = h3} leads3 images3 =
@@ -211,7 +211,7 @@ module _ {H : Type 0} (m : HostModel H) (target : ℕ) {h0 h1 : H} (journal : Co
             ))))
 
         -- it was run to its end
-        pub led_on : SnapshotIsBack → {h3 : H} {journal3 : Counters} {done : Done} → target ≢ journal.progress.time → ((h : History) → IsAt m h journal2 h2
+        pub led_on : SnapshotIsBack → {h3 : H} {journal3 : Counters} {done : Done} → target ≢ journal.progress.time → ((h : History) → IsCheckpoint m h journal2 h2
             → IsUpToDate m h h2 → HasPlayed m (ticks_left journal2.progress) h (m.contents h2) journal3 h3
             × IsUpToDate m (played (ticks_left journal2.progress) h) h3)
             → journal3.progress.time ≡ journal3.progress.target → done.time ≡ journal3.progress.time

@@ -14,8 +14,8 @@ use Rattle.nb_journal.specs.Counters.{Counters, Answers, counters_of}
 use Rattle.nb_journal.specs.Entries.{Progress, IsNextEntry, AreLawful, toward, progress_after, after_all}
 use Rattle.nb_journal.specs.Form.{IsLawful, begun, progress_of}
 use Rattle.nb_journal.proofs.Callers.{progress-with_entry}
-use Rattle.nb_engine.specs.Due.{IsDueBy, TellsDue}
-use Rattle.nb_engine.specs.Histories.{Run, state_of, IsDue, length_of, History, legs_in, run_of, ticks_of, with_entry_of, ticked, legged}
+use Rattle.nb_engine.specs.Due.{IsDueByCounters, TellsDue}
+use Rattle.nb_engine.specs.Histories.{Run, state_of, IsDueAfter, length_of, History, legs_in, run_of, ticks_of, with_entry_of, ticked, legged}
 use Rattle.nb_engine.proofs.LongerLogs.{legs_in-tick, run-legged, ticks-legged, ticks-ended}
 use Rattle.nb_engine.proofs.LongerRuns.{length-directions_to}
 use Rattle.nb_engine.proofs.Paths.{told, ticks-within}
@@ -107,7 +107,7 @@ ends_last h lawful ended =
     let all = take_all (length legs) legs (omega arith) in
     (length legs, sym (ticks-ended h lawful ended) ∙ ap (λ (l : List ℕ). length (directions h.log.begin_time l)) (sym all))
 
-pub due_by : (h : History) → IsLawful h.log → IsDueBy (counters_of h.log) → IsDue (run_of h) (ticks_of h)
+pub due_by : (h : History) → IsLawful h.log → IsDueByCounters (counters_of h.log) → IsDueAfter (run_of h) (ticks_of h)
 due_by h lawful is = record {
   some = is.0;
   within = ticks-within h lawful;
@@ -145,8 +145,8 @@ ends_tick h number gone lawful ends =
     ]
 
 due_told : (h : History) (number gone : ℕ) → IsLawful (with_entry_of (Tick number gone) h).log
-    → IsDue (run_of (with_entry_of (Tick number gone) h)) (ticks_of (with_entry_of (Tick number gone) h))
-    → IsDueBy (counters_of (with_entry_of (Tick number gone) h).log)
+    → IsDueAfter (run_of (with_entry_of (Tick number gone) h)) (ticks_of (with_entry_of (Tick number gone) h))
+    → IsDueByCounters (counters_of (with_entry_of (Tick number gone) h).log)
 due_told h number gone lawful is = (
   is.some,
   elim is.due [ inl every ↦ inl every | inr ends ↦ inr (ends_tick h number gone lawful ends) ],
@@ -154,7 +154,7 @@ due_told h number gone lawful is = (
 
 -- A leg begins where the one before it ended.
 due_legged : (h : History) (target : ℕ) → IsLawful (legged target h).log → 1 ≤ ticks_of (legged target h)
-    → IsDue (run_of (legged target h)) (ticks_of (legged target h))
+    → IsDueAfter (run_of (legged target h)) (ticks_of (legged target h))
 due_legged h target lawful some =
     let legs = (run_of h).legs in
     let before = lawful_before h (Leg target) lawful in
@@ -177,16 +177,16 @@ due_legged h target lawful some =
 
 -- A snapshot is due after a tick by the counters of its journal.
 pub due_by-ticked : {journal : Counters} (h : History) → IsLawful (ticked h).log → Answers (ticked h).log journal
-    → IsDueBy journal ↔ IsDue (run_of (ticked h)) (ticks_of (ticked h))
+    → IsDueByCounters journal ↔ IsDueAfter (run_of (ticked h)) (ticks_of (ticked h))
 due_by-ticked h lawful answers = (
-  λ is. due_by (ticked h) lawful (subst IsDueBy answers is),
+  λ is. due_by (ticked h) lawful (subst IsDueByCounters answers is),
   λ due.
-      subst IsDueBy (sym answers)
+      subst IsDueByCounters (sym answers)
       (due_told h (suc (ticks_of h)) (escaped_count (state_of (run_of h) (suc (ticks_of h)))) lawful due),
 )
 
 pub tells_due-ticked : {journal : Counters} {due : Bool} (h : History) → IsLawful (ticked h).log
-    → Answers (ticked h).log journal → IsTrue due ↔ IsDueBy journal → TellsDue (ticked h) due
+    → Answers (ticked h).log journal → IsTrue due ↔ IsDueByCounters journal → TellsDue (ticked h) due
 tells_due-ticked h lawful answers tells =
     let by = due_by-ticked h lawful answers in
     (λ is. by.0 (tells.0 is), λ due. tells.1 (by.1 due))
@@ -232,8 +232,8 @@ tells_empty {journal} h answers empty some =
     no_ticks [] none = refl
     no_ticks (entry ∷ l) none = absurd (omega arith)
 
-pub tells_by : {journal : Counters} (h : History) → IsLawful h.log → Answers h.log journal → IsDueBy journal → TellsDue h true
-tells_by h lawful answers is = (λ _. due_by h lawful (subst IsDueBy answers is), λ _. refl)
+pub tells_by : {journal : Counters} (h : History) → IsLawful h.log → Answers h.log journal → IsDueByCounters journal → TellsDue h true
+tells_by h lawful answers is = (λ _. due_by h lawful (subst IsDueByCounters answers is), λ _. refl)
 
 -- Where the last entry is a leg, the tick before it ended the one before.
 pub tells_leg : {journal : Counters} (h : History) (i target : ℕ) → IsLawful h.log → Answers h.log journal
@@ -242,16 +242,16 @@ tells_leg h i target lawful answers some last is =
     let entries = ap (λ (c : Counters). c.entries) answers in
     let ticks = ap (λ (c : Counters). c.progress.ticks) answers in
     let ends = ends_with h i (Leg target) (omega arith) is in
-    let due = subst (λ (x : History). IsLawful x.log → 1 ≤ ticks_of x → IsDue (run_of x) (ticks_of x)) (sym ends.is)
+    let due = subst (λ (x : History). IsLawful x.log → 1 ≤ ticks_of x → IsDueAfter (run_of x) (ticks_of x)) (sym ends.is)
     (due_legged ends.before target) in
     (λ _. due lawful (omega arith), λ _. refl)
 
 -- Where it is a tick, the counters tell.
 pub tells_tick : {journal : Counters} (h : History) (i number gone : ℕ) → IsLawful h.log → Answers h.log journal
-    → (IsDueBy journal → ⊥) → i + 1 ≡ journal.entries → slice_get h.log.entries i ≡ Some (Tick number gone) → TellsDue h false
+    → (IsDueByCounters journal → ⊥) → i + 1 ≡ journal.entries → slice_get h.log.entries i ≡ Some (Tick number gone) → TellsDue h false
 tells_tick h i number gone lawful answers never last is =
     let entries = ap (λ (c : Counters). c.entries) answers in
     let ends = ends_with h i (Tick number gone) (omega arith) is in
-    let by = subst (λ (x : History). IsLawful x.log → IsDue (run_of x) (ticks_of x) → IsDueBy (counters_of x.log)) (sym ends.is)
+    let by = subst (λ (x : History). IsLawful x.log → IsDueAfter (run_of x) (ticks_of x) → IsDueByCounters (counters_of x.log)) (sym ends.is)
     (due_told ends.before number gone) in
-    (λ t. absurd (false≢true t), λ due. absurd (never (subst IsDueBy (sym answers) (by lawful due))))
+    (λ t. absurd (false≢true t), λ due. absurd (never (subst IsDueByCounters (sym answers) (by lawful due))))

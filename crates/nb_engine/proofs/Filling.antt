@@ -37,7 +37,7 @@ use Rattle.nb_engine.specs.Frame.{RanSession}
 use Rattle.nb_engine.specs.Histories.{state_of, History, run_of, ticks_of, IsHistory}
 use Rattle.nb_engine.specs.Refusal.{of_host, of_tick, NeedsNoCause}
 use Rattle.nb_engine.specs.Represents.{snap_of, IsOpened, RepresentsRun}
-use Rattle.nb_engine.specs.Steps.{IsSettled, HasState, IsSpoilt, fill_files, IsFilled, HasNext}
+use Rattle.nb_engine.specs.Steps.{IsFlushed, HasState, IsSpoilt, fill_files, IsFilled, HasNext}
 use Rattle.nb_engine.proofs.Frames.{session_ran, session_cached, session_then}
 use Rattle.nb_engine.proofs.Paths.{state-forward, state-back}
 use Rattle.nb_engine.proofs.Steps.{steps_valid}
@@ -278,7 +278,7 @@ module _ {H : Type 0} (m : HostModel H) (journal : Counters) (params : Params) (
     other_kept : IsTrue m.tells → (number : ℕ) → number ≤ 8 → (m.contents h2).file number ≡ (m.contents h1).file number
     other_kept tells number low = (cleared.contents tells).others number (λ same. omega (arith, same, file_is, low))
 
-    pub settled_then : (cache : CacheValue) → cache.unwritten ≡ [] → IsInStep m cache h1 → IsSettled m cache h2
+    pub settled_then : (cache : CacheValue) → cache.unwritten ≡ [] → IsInStep m cache h1 → IsFlushed m cache h2
     settled_then cache flushed in_step = record {
       in_step = step_file cache (λ cached. omega (arith, file_is, cached.greatest)) cleared in_step;
       unwritten = λ other has. absurd (no_file other (subst (λ (l : List ℕ). Contains l other) flushed has));

@@ -5,6 +5,7 @@ use Rattle.std.proofs.lemmas.Bool.{cases_eq, false≢true}
 use Rattle.std.proofs.lemmas.List.{append-nil}
 use Rattle.nb_host.specs.declared.host.Channel.{Channel}
 use Rattle.nb_host.specs.declared.host.Channel.TheVariants as channels
+use Rattle.nb_host.specs.declared.page_name.PageName.{PageName}
 use Rattle.nb_host.specs.Crashes.{Stays, AgreesOutside}
 use Rattle.nb_host.specs.Image.{Image}
 use Rattle.nb_host.specs.Meaning.{HostModel, Leads, IsDurable}
@@ -21,15 +22,15 @@ use Rattle.nb_journal.specs.Offsets.{journal_file}
 use Rattle.nb_record.specs.Order.{by_key, sorted_by, HoldsBodies, HoldsKickedBodies}
 use Rattle.nb_tick.specs.Slots.{slot_of, sorted_file}
 use Rattle.nb_engine.specs.declared.refusal.Refusal.{Refusal}
-use Rattle.nb_engine.specs.Acknowledged.{IsToldUpTo}
+use Rattle.nb_engine.specs.Acknowledged.{IsAcknowledgedUpTo}
 use Rattle.nb_engine.specs.Due.{TellsDue}
 use Rattle.nb_engine.specs.Files.{init_file, IsPagedFile}
 use Rattle.nb_engine.specs.Frame.{EachImage}
-use Rattle.nb_engine.specs.Histories.{state_of, time_of, IsDue, History, run_of, ticks_of, IsHistory}
+use Rattle.nb_engine.specs.Histories.{state_of, time_of, IsDueAfter, History, run_of, ticks_of, IsHistory}
 use Rattle.nb_engine.specs.Refusal.{NeedsNoCause}
 use Rattle.nb_engine.specs.Represents.{snap_of, IsOpened, IsSnapshotOf, RepresentsRun, IsComplete}
-use Rattle.nb_engine.specs.Snapshots.{HoldsByKeys, IsBroken}
-use Rattle.nb_engine.specs.Steps.{IsAt, IsSpoilt, GoesOn, HasPlayed, IsUpToDate}
+use Rattle.nb_engine.specs.Snapshots.{HoldsByKeys, IsSnapshotPage, IsBroken}
+use Rattle.nb_engine.specs.Steps.{IsCheckpoint, IsSpoilt, GoesOn, HasPlayed, IsUpToDate}
 use Rattle.nb_engine.proofs.Played.{passed_apart}
 use Rattle.nb_engine.proofs.EachImages.{from_durable, durable_stays}
 use Rattle.nb_engine.proofs.Paths.{time-now}
@@ -56,7 +57,7 @@ tells_time : (h : History) {journal : Counters} → IsLawful h.log → Answers h
 tells_time h lawful answers = ap (λ (c : Counters). c.progress.time) answers ∙ time-now h lawful
 
 -- the slot holds the list of the last tick
-pub slot_by_keys : {H : Type 0} {m : HostModel H} (h : History) {journal : Counters} {host : H} → IsAt m h journal host
+pub slot_by_keys : {H : Type 0} {m : HostModel H} (h : History) {journal : Counters} {host : H} → IsCheckpoint m h journal host
     → SlotHolds m journal host (state_of (run_of h) (ticks_of h))
 slot_by_keys {m = m} h {journal = journal} {host = host} at =
     let run = run_of h in
@@ -70,8 +71,8 @@ slot_by_keys {m = m} h {journal = journal} {host = host} at =
 
 -- ---- where nothing was written
 
-pub stays_at : {H : Type 0} {m : HostModel H} {h : History} {journal : Counters} {old new : H} → IsAt m h journal old
-    → Leads m Stays old new → IsAt m h journal new
+pub stays_at : {H : Type 0} {m : HostModel H} {h : History} {journal : Counters} {old new : H} → IsCheckpoint m h journal old
+    → Leads m Stays old new → IsCheckpoint m h journal new
 stays_at {m = m} {h = h} at leads = record {
   tells = at.tells;
   durable = durable_stays m at.durable leads;
@@ -80,7 +81,7 @@ stays_at {m = m} {h = h} at leads = record {
   represents = subst (RepresentsRun h) (sym (leads.contents at.tells)) at.represents;
 }
 
-pub played_none : {H : Type 0} {m : HostModel H} {h : History} {journal : Counters} {old new : H} → IsAt m h journal old
+pub played_none : {H : Type 0} {m : HostModel H} {h : History} {journal : Counters} {old new : H} → IsCheckpoint m h journal old
     → Leads m Stays old new → HasPlayed m 0 h (m.contents old) journal new
 played_none {m = m} {old = old} at leads =
     let same = leads.contents at.tells in
@@ -93,7 +94,7 @@ played_none {m = m} {old = old} at leads =
     }
 
 -- at each moment
-pub images_none : {H : Type 0} {m : HostModel H} {h : History} {journal : Counters} {old new : H} → IsAt m h journal old
+pub images_none : {H : Type 0} {m : HostModel H} {h : History} {journal : Counters} {old new : H} → IsCheckpoint m h journal old
     → Leads m Stays old new → EachImage m (GoesOn 0 h (m.contents old)) old new
 images_none {m = m} {h = h} {old = old} at leads =
     let now = m.contents old in
@@ -102,19 +103,19 @@ images_none {m = m} {h = h} {old = old} at leads =
 
 -- All that is due is finished where the snapshot of the last tick is, if that is due.
 complete_if : (h : History) (image : Image) → RepresentsRun h image
-    → (IsDue (run_of h) (ticks_of h) → IsFinishedSnapshot (length h.bodies) (image.file (snap_of (ticks_of h))))
+    → (IsDueAfter (run_of h) (ticks_of h) → IsFinishedSnapshot (length h.bodies) (image.file (snap_of (ticks_of h))))
     → IsComplete (run_of h) (ticks_of h) image
 complete_if h image represents last = λ j due within.
     elim (cases_eq j (ticks_of h)) [
       | inl same ↦
           subst (λ (n : ℕ). IsFinishedSnapshot (length h.bodies) (image.file (snap_of n))) (sym same)
-          (last (subst (IsDue (run_of h)) same due))
+          (last (subst (IsDueAfter (run_of h)) same due))
       | inr apart ↦ represents.finished j due (omega arith)
     ]
 
 -- It isn't due.
 pub complete_undue : {H : Type 0} {m : HostModel H} {h : History} {journal : Counters} {host : H} {due : Bool} → due ≡ false
-    → TellsDue h due → IsAt m h journal host → IsUpToDate m h host
+    → TellsDue h due → IsCheckpoint m h journal host → IsUpToDate m h host
 complete_undue {m = m} {h = h} {host = host} undue tells at =
     complete_if h (m.contents host) at.represents (λ is. absurd (false≢true (sym undue ∙ tells.1 is)))
 
@@ -136,7 +137,7 @@ last_number {h = h} {file = file} image is answers number many finished =
 
 -- It is finished already, which was read.
 pub complete_found : {H : Type 0} {m : HostModel H} {h : History} {journal : Counters} {old new : H} {file count : ℕ}
-    → IsAt m h journal old → Leads m Stays old new → file ≡ snap_of journal.progress.ticks → count ≡ journal.count
+    → IsCheckpoint m h journal old → Leads m Stays old new → file ≡ snap_of journal.progress.ticks → count ≡ journal.count
     → (IsTrue m.tells → IsFinishedSnapshot count ((m.contents old).file file)) → IsUpToDate m h new
 complete_found {m = m} {h = h} {old = old} at leads number many found =
     subst (IsComplete (run_of h) (ticks_of h)) (sym (leads.contents at.tells))
@@ -211,7 +212,7 @@ unopened h old represents some unfinished = λ long open'.
     absurd (unfinished (subst (λ (n : ℕ). IsFinishedSnapshot n file) (length-state h k) (snapshot_finished is)))
 
 -- at some moment of its writing
-goes_writing : (h : History) (old image : Image) → RepresentsRun h old → IsDue (run_of h) (ticks_of h)
+goes_writing : (h : History) (old image : Image) → RepresentsRun h old → IsDueAfter (run_of h) (ticks_of h)
     → (IsFinishedSnapshot (length h.bodies) (old.file (snap_of (ticks_of h))) → ⊥)
     → ChangesWith (sorted_file ∷ []) (snap_of (ticks_of h))
     (IsWritten (state_of (run_of h) (ticks_of h)) (time_of (run_of h) (ticks_of h))) old image
@@ -252,7 +253,7 @@ turned file agrees = record {
 
 -- what the call leads by, with the numbers that the journal tells
 pub images_written : {H : Type 0} {m : HostModel H} {h : History} {journal : Counters} {due : Bool} {old middle new : H}
-    {file count : ℕ} → due ≡ true → TellsDue h due → IsAt m h journal old → Leads m Stays old middle
+    {file count : ℕ} → due ≡ true → TellsDue h due → IsCheckpoint m h journal old → Leads m Stays old middle
     → file ≡ snap_of journal.progress.ticks → count ≡ journal.count
     → (IsTrue m.tells → IsFinishedSnapshot count ((m.contents old).file file) → ⊥)
     → ((bodies : List Body) → (IsTrue m.tells → SlotHolds m journal middle bodies)
@@ -278,7 +279,7 @@ images_written {m = m} {h = h} {journal = journal} {old = old} {middle = middle}
 
 -- It is written.
 pub played_written : {H : Type 0} {m : HostModel H} {h : History} {journal : Counters} {due : Bool} {old middle new : H}
-    {file count : ℕ} → due ≡ true → TellsDue h due → IsAt m h journal old → Leads m Stays old middle
+    {file count : ℕ} → due ≡ true → TellsDue h due → IsCheckpoint m h journal old → Leads m Stays old middle
     → file ≡ snap_of journal.progress.ticks → count ≡ journal.count
     → (IsTrue m.tells → IsFinishedSnapshot count ((m.contents old).file file) → ⊥)
     → (IsTrue m.tells → (bodies : List Body) → SlotHolds m journal middle bodies
@@ -324,9 +325,15 @@ played_written {m = m} {h = h} {journal = journal} {old = old} {middle = middle}
 
 -- ---- why it can't be
 
+-- the pages from which a snapshot is written are of files of pages
+snapshot_paged : (k : ℕ) (page : PageName) → IsSnapshotPage k page → IsPagedFile page.file
+snapshot_paged k page (inl slot) = (omega (arith, slot), omega (arith, slot))
+snapshot_paged k page (inr sorted) = (omega (arith, sorted), omega (arith, sorted))
+
 -- Where the slot holds no such list, the folder doesn't hold what its run needs to go on.
 pub spoilt : {H : Type 0} {m : HostModel H} {journal : Counters} {old middle : H} → Leads m Stays old middle → (why : Refusal)
-    → NeedsNoCause why ⊎ IsBroken m IsPagedFile (SlotHolds m journal middle) why → NeedsNoCause why ⊎ IsSpoilt m journal old why
+    → NeedsNoCause why ⊎ IsBroken m (IsSnapshotPage journal.progress.ticks) (SlotHolds m journal middle) why
+    → NeedsNoCause why ⊎ IsSpoilt m journal old why
 spoilt {m = m} {journal = journal} {middle = middle} read why cause =
     elim cause [
       | inl none ↦ inl none
@@ -334,7 +341,7 @@ spoilt {m = m} {journal = journal} {middle = middle} read why cause =
           inr (record {
             page = broken.page;
             shown = broken.shown;
-            file = broken.file;
+            file = snapshot_paged journal.progress.ticks broken.page broken.place;
             cause = λ tells bodies state.
                 let keys : SlotHolds m journal middle bodies =
                 subst (λ (i : Image). HoldsByKeys journal.count bodies (i.file (slot_of journal.progress.ticks)))

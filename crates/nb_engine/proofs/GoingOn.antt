@@ -22,10 +22,10 @@ use Rattle.nb_tick.specs.Slots.{slot_of}
 use Rattle.nb_engine.specs.declared.refusal.Refusal.{Refusal}
 use Rattle.nb_engine.specs.Files.{init_file}
 use Rattle.nb_engine.specs.Frame.{EachImage, KeepsApart}
-use Rattle.nb_engine.specs.Histories.{IsDue, History, run_of, ticks_of, IsHistory, legged}
+use Rattle.nb_engine.specs.Histories.{IsDueAfter, History, run_of, ticks_of, IsHistory, legged}
 use Rattle.nb_engine.specs.Represents.{snap_of, RepresentsRun}
 use Rattle.nb_engine.specs.Sessions.{ticks_left, ticks_to, SessionLeads, OpenLeads, GoLeads, ResumeLeads, IsNoLeg}
-use Rattle.nb_engine.specs.Steps.{IsAt, IsPassed, GoesOn, HasPlayed, IsUpToDate}
+use Rattle.nb_engine.specs.Steps.{IsCheckpoint, IsPassed, GoesOn, HasPlayed, IsUpToDate}
 use Rattle.nb_engine.proofs.EachImages.{from_durable, leads_each, leads_from_durable}
 use Rattle.nb_engine.proofs.LongerLogs.{run-legged, ticks-legged, leads-away}
 use Rattle.nb_engine.proofs.LongerRuns.{due-shorter}
@@ -235,7 +235,7 @@ module _ {H : Type 0} (m : HostModel H) (target : ℕ) (h : History) (first : Im
     both : IsHistory (legged target h) × RepresentsRun (legged target h) (m.contents h2)
     both = represents_legged h target (m.contents h1) (m.contents h2) begun.at.is leg begun.at.represents others log_next
 
-    pub leg_at : IsAt m (legged target h) (counters_after (Leg target) journal) h2
+    pub leg_at : IsCheckpoint m (legged target h) (counters_after (Leg target) journal) h2
     leg_at = record {
       tells = begun.at.tells;
       durable = durable;
@@ -250,7 +250,7 @@ module _ {H : Type 0} (m : HostModel H) (target : ℕ) (h : History) (first : Im
         let lawful = begun.at.represents.journal.journal.lawful in
         let up_to : j ≤ ticks_of h = omega (arith, within, ticks-legged target h) in
         let was = due-shorter target (run_of h) j (leads-away target h leg) (omega (arith, up_to, ticks-within h lawful))
-        (subst (λ run. IsDue run j) (run-legged target h) due) in
+        (subst (λ run. IsDueAfter run j) (run-legged target h) due) in
         subst (IsFinishedSnapshot (length h.bodies)) (sym (other_file others (snap_of j) (omega arith))) (date j was up_to)
 
     pub leg_kept : (j : ℕ) → j ≤ ticks_of (legged target h) → IsFinishedSnapshot (length h.bodies) (first.file (snap_of j))

@@ -14,10 +14,10 @@ use Rattle.nb_journal.specs.Entries.{Progress, progress_after, after_all}
 use Rattle.nb_journal.specs.Form.{IsLawful, begun, progress_of}
 use Rattle.nb_engine.specs.declared.going.Done.{Done}
 use Rattle.nb_engine.specs.Files.{init_file}
-use Rattle.nb_engine.specs.Histories.{state_of, time_of, IsDue, History, run_of, ticks_of, IsHistory, legged}
+use Rattle.nb_engine.specs.Histories.{state_of, time_of, IsDueAfter, History, run_of, ticks_of, IsHistory, legged}
 use Rattle.nb_engine.specs.Represents.{snap_of, Represents}
 use Rattle.nb_engine.specs.Sessions.{ticks_left, aimed_at, ticks_to, IsLed}
-use Rattle.nb_engine.specs.Steps.{played, IsAt, HasPlayed, IsUpToDate}
+use Rattle.nb_engine.specs.Steps.{played, IsCheckpoint, HasPlayed, IsUpToDate}
 use Rattle.nb_engine.proofs.DueNow.{due_by}
 use Rattle.nb_engine.proofs.LongerLogs.{ticks-ended}
 use Rattle.nb_engine.proofs.Paths.{time-now}
@@ -97,11 +97,11 @@ begin_gone-played (suc n) h = begin_gone-played n h
 
 -- a snapshot is due after the last tick where its leg has ended
 due_ended : (h : History) → IsLawful h.log → 1 ≤ ticks_of h → (progress_of h.log).time ≡ (progress_of h.log).target
-    → IsDue (run_of h) (ticks_of h)
+    → IsDueAfter (run_of h) (ticks_of h)
 due_ended h lawful some ended = due_by h lawful (some, inr ended)
 
 -- So that of the last tick of a leg is the initial one.
-back_again : SnapshotIsBack → {H : Type 0} {m : HostModel H} (h : History) {journal : Counters} {host : H} → IsAt m h journal host
+back_again : SnapshotIsBack → {H : Type 0} {m : HostModel H} (h : History) {journal : Counters} {host : H} → IsCheckpoint m h journal host
     → IsUpToDate m h host → (progress_of h.log).time ≡ (progress_of h.log).target
     → (progress_of h.log).time ≡ h.log.begin_time → 1 ≤ ticks_of h → (progress_of h.log).gone ≡ h.log.begin_gone
     → (m.contents host).file (snap_of (ticks_of h)) ≡ (m.contents host).file init_file

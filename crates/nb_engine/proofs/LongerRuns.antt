@@ -9,7 +9,7 @@ use Rattle.nb_model.specs.declared.way.Way.TheVariants.{Forward, Back}
 use Rattle.nb_model.specs.Leapfrog.{steps}
 use Rattle.nb_model.specs.Legs.{directions_to, directions, time_by, EachLeads}
 use Rattle.nb_model.specs.Limits.{most_ticks}
-use Rattle.nb_engine.specs.Histories.{Run, state_of, time_of, IsDue, length_of, IsRun}
+use Rattle.nb_engine.specs.Histories.{Run, state_of, time_of, IsDueAfter, length_of, IsRun}
 
 -- the target of the last leg, or the time at the begin where there is no leg
 abbrev pub end_of : ℕ → List ℕ → ℕ
@@ -78,7 +78,7 @@ pub time-longer : (target : ℕ) (run : Run) (k : ℕ) → k ≤ length_of run �
 time-longer target run k within = ap (time_by run.begin) (take-longer target run k within)
 
 -- what is due in a run is due in the longer one
-pub due-longer : (target : ℕ) (run : Run) (k : ℕ) → IsDue run k → IsDue (longer target run) k
+pub due-longer : (target : ℕ) (run : Run) (k : ℕ) → IsDueAfter run k → IsDueAfter (longer target run) k
 due-longer target run k is = record {
   some = is.some;
   within = omega (arith, is.within, length-longer run.begin target run.legs);
@@ -102,7 +102,7 @@ due-longer target run k is = record {
 
 -- and so is what is due in the longer one, up to the end of the last leg
 pub due-shorter : (target : ℕ) (run : Run) (k : ℕ) → target ≢ end_of run.begin run.legs → k ≤ length_of run
-    → IsDue (longer target run) k → IsDue run k
+    → IsDueAfter (longer target run) k → IsDueAfter run k
 due-shorter target run k apart within is = record {
   some = is.some;
   within = within;

@@ -20,7 +20,7 @@ use Rattle.nb_engine.specs.Histories.{History, IsHistory}
 use Rattle.nb_engine.specs.Represents.{snap_of, RepresentsRun}
 use Rattle.nb_engine.specs.Sessions.{OpenLeads, IsSlotSpoilt}
 use Rattle.nb_engine.specs.Snapshots.{snapshot_files, FinishLeads}
-use Rattle.nb_engine.specs.Steps.{IsAt, IsSpoilt, GoesOn, HasPlayed, IsUpToDate, HasState}
+use Rattle.nb_engine.specs.Steps.{IsCheckpoint, IsSpoilt, GoesOn, HasPlayed, IsUpToDate, HasState}
 use Rattle.nb_engine.proofs.EachImages.{durable_stays, from_durable, each_behind, each_told, leads_from_durable, SparedWhere, leads_spared}
 
 -- ---- steps
@@ -93,7 +93,7 @@ module _ {H : Type 0} (m : HostModel H) {h0 h1 h2 : H} (journal : Counters) (dur
   durable_now = durable_stays m (durable_stays m durable first) second
 
   -- before what is due is finished
-  pub at_begin : IsTrue m.tells → (h : History) → IsHistory h → RepresentsRun h (m.contents h0) → IsAt m h journal h2
+  pub at_begin : IsTrue m.tells → (h : History) → IsHistory h → RepresentsRun h (m.contents h0) → IsCheckpoint m h journal h2
   at_begin tells h is represents = record {
     tells = tells;
     durable = durable_now;
@@ -140,7 +140,7 @@ module _ {H : Type 0} (m : HostModel H) {h0 h1 h2 : H} (journal : Counters) (dur
 
   pub open_each : {h3 : H} (due : Bool) → (IsTrue m.tells → (h : History) → Answers h.log journal
       → IsJournal h.log ((m.contents h1).file journal_file) → TellsDue h due)
-      → ((h : History) → TellsDue h due → IsAt m h journal h2 → EachImage m (GoesOn 0 h (m.contents h2)) h2 h3)
+      → ((h : History) → TellsDue h due → IsCheckpoint m h journal h2 → EachImage m (GoesOn 0 h (m.contents h2)) h2 h3)
       → (h : History) → IsHistory h → RepresentsRun h (m.contents h0) → EachImage m (GoesOn 0 h (m.contents h0)) h0 h3
   open_each {h3 = h3} due tells_due each h is represents =
       each_told m (GoesOn 0 h (m.contents h0)) (λ tells.
@@ -155,7 +155,7 @@ module _ {H : Type 0} (m : HostModel H) {h0 h1 h2 : H} (journal : Counters) (dur
 
   pub opened : {h3 : H} (due : Bool) → (IsTrue m.tells → (h : History) → Answers h.log journal
       → IsJournal h.log ((m.contents h1).file journal_file) → TellsDue h due)
-      → ((h : History) → TellsDue h due → IsAt m h journal h2 → HasPlayed m 0 h (m.contents h2) journal h3 × IsUpToDate m h h3)
+      → ((h : History) → TellsDue h due → IsCheckpoint m h journal h2 → HasPlayed m 0 h (m.contents h2) journal h3 × IsUpToDate m h h3)
       → IsTrue m.tells → (h : History) → IsHistory h → RepresentsRun h (m.contents h0)
       → HasPlayed m 0 h (m.contents h0) journal h3 × IsUpToDate m h h3
   opened {h3 = h3} due tells_due finished tells h is represents =

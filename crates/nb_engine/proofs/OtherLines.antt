@@ -4,7 +4,7 @@ use Rattle.std.proofs.Math.ListN.{get_or-append}
 use Rattle.std.proofs.lemmas.Bool.{cases_lt}
 use Rattle.std.proofs.lemmas.List.{get_or-append-add}
 use Rattle.nb_format.specs.Lines.{tick_line}
-use Rattle.nb_engine.specs.Acknowledged.{EndsLine, Acknowledges, IsToldUpTo, IsForeignByte, HasForeignByte, IsOtherText}
+use Rattle.nb_engine.specs.Acknowledged.{EndsLine, Acknowledges, IsAcknowledgedUpTo, IsForeignByte, HasForeignByte, IsOtherText}
 use Rattle.nb_engine.proofs.TickLines.{split_either, whole_line}
 use Rattle.nb_engine.proofs.Told.{last_feed, told_earlier}
 
@@ -100,7 +100,7 @@ told_before n j said text told (x ∷ part) other at first =
     (length part) (omega arith) other (whole_line n text (x ∷ part) told.behind first) told.begins
     (tick_lacks j told.time told.gone told.tick told.time_fits told.gone_fits) at)
 
-pub told_other : (k n : ℕ) (said text : List ℕ) → IsOtherText text → IsToldUpTo k said → IsToldUpTo k (said ++ take n text)
+pub told_other : (k n : ℕ) (said text : List ℕ) → IsOtherText text → IsAcknowledgedUpTo k said → IsAcknowledgedUpTo k (said ++ take n text)
 told_other k n said text other up j told =
     let line = tick_line j told.time told.gone in
     let there = told.there ∙ sym (append_assoc told.before line told.behind) in

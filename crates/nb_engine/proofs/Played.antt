@@ -12,7 +12,7 @@ use Rattle.nb_tick.specs.Slots.{cell_file}
 use Rattle.nb_tick.specs.State.{IsCellIndexOf}
 use Rattle.nb_engine.specs.Histories.{Run, state_of, History, run_of, ticks_of, IsHistory, ticked}
 use Rattle.nb_engine.specs.Represents.{snap_of, IsOpened, RepresentsRun}
-use Rattle.nb_engine.specs.Steps.{line_of, lines_behind, SaidLinesOf, played, IsAt, IsPassed, GoesOn, HasPlayed}
+use Rattle.nb_engine.specs.Steps.{tick_line_of, lines_behind, SaidLinesOf, played, IsCheckpoint, IsPassed, GoesOn, HasPlayed}
 use Rattle.nb_engine.proofs.LongerLogs.{run-ticked, ticks-ticked, history-ticked}
 
 -- ---- a history some ticks later
@@ -58,9 +58,9 @@ lines-more run k n (suc m) =
     let first = lines_behind run k n in
     let rest = lines_behind run (k + n) m in
     ap (λ (i : ℕ). lines_behind run k i) same
-    ∙ ap (λ (i : ℕ). lines_behind run k (n + m) ++ line_of run (suc i)) number
-    ∙ ap (λ (lines : List ℕ). lines ++ line_of run (suc (k + n + m))) (lines-more run k n m)
-    ∙ append_assoc first rest (line_of run (suc (k + n + m)))
+    ∙ ap (λ (i : ℕ). lines_behind run k (n + m) ++ tick_line_of run (suc i)) number
+    ∙ ap (λ (lines : List ℕ). lines ++ tick_line_of run (suc (k + n + m))) (lines-more run k n m)
+    ∙ append_assoc first rest (tick_line_of run (suc (k + n + m)))
 
 -- the same for the ticks behind a history
 pub lines-played : (h : History) (n m : ℕ) → lines_behind (run_of h) (ticks_of h) (n + m)
@@ -74,11 +74,11 @@ lines-played h n m =
     ∙ ap (λ (r : Run). lines_behind run k n ++ lines_behind r (ticks_of (played n h)) m) (sym (run-played n h))
 
 -- a front of the first
-pub said_first : (run : Run) (k n : ℕ) (line old new : List ℕ) → line ≡ line_of run (suc k) → n ≤ length line
+pub said_first : (run : Run) (k n : ℕ) (line old new : List ℕ) → line ≡ tick_line_of run (suc k) → n ≤ length line
     → new ≡ old ++ take n line → SaidLinesOf run k 1 old new
 said_first run k n line old new is within said =
     let same : k ≡ k + 0 = omega arith in
-    let one : line ≡ line_of run (suc (k + 0)) = is ∙ ap (λ (i : ℕ). line_of run (suc i)) same in (
+    let one : line ≡ tick_line_of run (suc (k + 0)) = is ∙ ap (λ (i : ℕ). tick_line_of run (suc i)) same in (
       n,
       subst (λ (l : List ℕ). n ≤ length l) one within,
       said ∙ ap (λ (l : List ℕ). l ++ take n line) (sym (append-nil old)) ∙ ap (λ (l : List ℕ). (old ++ []) ++ take n l) one,
@@ -88,7 +88,7 @@ said_first run k n line old new is within said =
 said_whole : (run : Run) (k n : ℕ) (old new : List ℕ) → new ≡ old ++ lines_behind run k n → SaidLinesOf run k n old new
 said_whole run k zero old new is = is ∙ append-nil old
 said_whole run k (suc n) old new is =
-    let line = line_of run (suc (k + n)) in
+    let line = tick_line_of run (suc (k + n)) in
     let lines = lines_behind run k n in (
       length line,
       omega arith,
@@ -108,12 +108,12 @@ said_then run k n (suc d) old middle new here said =
     let lines : middle ++ rest ≡ old ++ lines_behind run k (n + d) =
     ap (λ (l : List ℕ). l ++ rest) here ∙ append_assoc old (lines_behind run k n) rest
     ∙ ap (λ (l : List ℕ). old ++ l) (sym (lines-more run k n d)) in
-    let line : line_of run (suc (k + n + d)) ≡ line_of run (suc (k + (n + d))) =
-    ap (λ (i : ℕ). line_of run (suc i)) number in
+    let line : tick_line_of run (suc (k + n + d)) ≡ tick_line_of run (suc (k + (n + d))) =
+    ap (λ (i : ℕ). tick_line_of run (suc i)) number in
     subst (λ (i : ℕ). SaidLinesOf run k i old new) (sym more) (
       said.0,
       subst (λ (l : List ℕ). said.0 ≤ length l) line said.1,
-      said.2 ∙ ap (λ (l : List ℕ). l ++ take said.0 (line_of run (suc (k + n + d)))) lines
+      said.2 ∙ ap (λ (l : List ℕ). l ++ take said.0 (tick_line_of run (suc (k + n + d)))) lines
           ∙ ap (λ (l : List ℕ). (old ++ lines_behind run k (n + d)) ++ take said.0 l) line,
     )
 
@@ -254,7 +254,7 @@ goes_then m n most {h} {before} {image} {host = host} first later = record {
 -- ---- ticks that are done and told
 
 -- none
-pub played_none : {H : Type 0} (m : HostModel H) {h : History} {journal : Counters} {host : H} → IsAt m h journal host
+pub played_none : {H : Type 0} (m : HostModel H) {h : History} {journal : Counters} {host : H} → IsCheckpoint m h journal host
     → HasPlayed m 0 h (m.contents host) journal host
 played_none m {h} {host = host} at = record {
   at = at;
@@ -271,7 +271,7 @@ played_both : {H : Type 0} (m : HostModel H) (n k : ℕ) {h : History} {before :
     ((m.contents host).file cell_file))
     → HasPlayed m (n + k) h before two host
 played_both m n k {h} {before} {two = two} {middle = middle} {host = host} first second cells = record {
-  at = subst (λ (x : History). IsAt m x two host) (played-more n k h) second.at;
+  at = subst (λ (x : History). IsCheckpoint m x two host) (played-more n k h) second.at;
   kept = later_kept m n (m.contents host) first second.kept;
   others = λ j passed.
       let here = ticks-played n h in

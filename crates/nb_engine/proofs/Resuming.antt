@@ -19,7 +19,7 @@ use Rattle.nb_engine.specs.Histories.{History, IsHistory}
 use Rattle.nb_engine.specs.Represents.{RepresentsRun}
 use Rattle.nb_engine.specs.Sessions.{ticks_left, IsLed, OpenLeads, ResumeLeads, IsSlotSpoilt}
 use Rattle.nb_engine.specs.Snapshots.{snapshot_files}
-use Rattle.nb_engine.specs.Steps.{played, IsAt, GoesOn, HasPlayed, IsUpToDate, HasState, IsSpoilt}
+use Rattle.nb_engine.specs.Steps.{played, IsCheckpoint, GoesOn, HasPlayed, IsUpToDate, HasState, IsSpoilt}
 use Rattle.nb_engine.proofs.Departures.{apart_both, open_apart}
 use Rattle.nb_engine.proofs.EachImages.{each_then, each_told}
 use Rattle.nb_engine.proofs.GoingOn.{resume_on, said_begun}
@@ -83,7 +83,7 @@ module _ {H : Type 0} (m : HostModel H) {h0 h1 : H} (journal : Counters) where
       → (IsTrue m.tells → (h : History) → IsHistory h → RepresentsRun h (m.contents h0)
       → HasPlayed m 0 h (m.contents h0) journal h1 × IsUpToDate m h h1)
       → Leads m KeepsApart h1 h2 → (journal.progress.time ≡ journal.progress.target → Leads m Stays h1 h2)
-      → ((h : History) → IsAt m h journal h1 → IsUpToDate m h h1
+      → ((h : History) → IsCheckpoint m h journal h1 → IsUpToDate m h h1
       → EachImage m (GoesOn (ticks_left journal.progress) h (m.contents h1)) h1 h2)
       → Leads m (ResumeLeads m.crashes.is_honest) h0 h2
   resumed {h2 = h2} durable found leads1 each1 begun leads2 still2 each2 =
@@ -102,7 +102,7 @@ module _ {H : Type 0} (m : HostModel H) {h0 h1 : H} (journal : Counters) where
   pub led_to_end : SnapshotIsBack → {h2 : H} {journal2 : Counters} {done : Done}
       → (IsTrue m.tells → (h : History) → IsHistory h → RepresentsRun h (m.contents h0)
       → HasPlayed m 0 h (m.contents h0) journal h1 × IsUpToDate m h h1)
-      → ((h : History) → IsAt m h journal h1 → IsUpToDate m h h1
+      → ((h : History) → IsCheckpoint m h journal h1 → IsUpToDate m h h1
       → HasPlayed m (ticks_left journal.progress) h (m.contents h1) journal2 h2
       × IsUpToDate m (played (ticks_left journal.progress) h) h2)
       → journal2.progress.time ≡ journal2.progress.target → done.time ≡ journal2.progress.time

@@ -13,7 +13,7 @@ use Rattle.nb_engine.specs.declared.refusal.Refusal.TheVariants as refusal
 use Rattle.nb_engine.specs.Frame.{EachImage, KeepsApart, RanSession}
 use Rattle.nb_engine.specs.Histories.{History, ticked}
 use Rattle.nb_engine.specs.Sessions.{ticks_left}
-use Rattle.nb_engine.specs.Steps.{played, IsAt, IsSettled, HasState, GoesOn, HasPlayed, IsUpToDate}
+use Rattle.nb_engine.specs.Steps.{played, IsCheckpoint, IsFlushed, HasState, GoesOn, HasPlayed, IsUpToDate}
 use Rattle.nb_engine.proofs.DueNow.{nearer}
 use Rattle.nb_engine.proofs.EachImages.{each_none, each_weaker, each_then}
 use Rattle.nb_engine.proofs.Frames.{session_none, session_then, session_as}
@@ -27,7 +27,7 @@ keeps_itself image = record { files = λ number apart. refl; err = refl }
 
 -- Since the leg began so many ticks were taken: all of what a tick needs is there, and what was said of each holds of all.
 pub record HasRun {H : Type 0} (m : HostModel H) (n : ℕ) (start journal : Counters) (cache : CacheValue) (old host : H) : Type 0 where
-  pub settled : IsSettled m cache host
+  pub settled : IsFlushed m cache host
   pub durable : IsDurable m old → IsDurable m host
   pub ran : RanSession {T = Unit {0}} m KeepsApart old host (Ok tt)
   pub left : ticks_left journal.progress + n ≡ ticks_left start.progress
@@ -35,16 +35,16 @@ pub record HasRun {H : Type 0} (m : HostModel H) (n : ℕ) (start journal : Coun
   pub still : n ≡ 0 → Leads m Stays old host
   pub state : IsTrue m.tells → (bodies : List Body) → HasState start bodies (m.contents old).file
       → (later : List Body) × HasState journal later (m.contents host).file
-  pub plays : (h : History) → IsAt m h start old → IsUpToDate m h old
+  pub plays : (h : History) → IsCheckpoint m h start old → IsUpToDate m h old
       → HasPlayed m n h (m.contents old) journal host × IsUpToDate m (played n h) host
-  pub images : (h : History) → IsAt m h start old → IsUpToDate m h old
+  pub images : (h : History) → IsCheckpoint m h start old → IsUpToDate m h old
       → EachImage m (GoesOn n h (m.contents old)) old host
 
 -- What a tick leaves.
 pub record HasStepped {H : Type 0} (m : HostModel H) (journal next : Counters) (old host : H) : Type 0 where
   pub lasts : IsDurable m host
   pub counters : (gone : ℕ) × (next ≡ counters_after (Tick (suc journal.progress.ticks) gone) journal)
-  pub one : (h : History) → IsAt m h journal old → IsUpToDate m h old
+  pub one : (h : History) → IsCheckpoint m h journal old → IsUpToDate m h old
       → HasPlayed m 1 h (m.contents old) next host × IsUpToDate m (ticked h) host
   pub next_state : IsTrue m.tells → (bodies : List Body) → HasState journal bodies (m.contents old).file
       → (later : List Body) × HasState next later (m.contents host).file
@@ -53,7 +53,7 @@ Ok≢Device : {T : Type 0} (value : T) → ◌≡◌ {A = Result T Refusal} (Ok 
 Ok≢Device value same = cc
 
 -- no tick yet
-pub run_none : {H : Type 0} (m : HostModel H) (journal : Counters) (cache : CacheValue) (host : H) → IsSettled m cache host
+pub run_none : {H : Type 0} (m : HostModel H) (journal : Counters) (cache : CacheValue) (host : H) → IsFlushed m cache host
     → HasRun m 0 journal journal cache host host
 run_none m journal cache host settled = record {
   settled = settled;
@@ -79,9 +79,9 @@ run_then run ran =
 -- the images of the ticks and of one more, perhaps in part
 pub run_images : {H : Type 0} {m : HostModel H} (n : ℕ) {start journal : Counters} {cache : CacheValue} {old middle host : H}
     → HasRun m n start journal cache old middle
-    → ((h : History) → IsAt m h journal middle → IsUpToDate m h middle
+    → ((h : History) → IsCheckpoint m h journal middle → IsUpToDate m h middle
     → EachImage m (GoesOn 1 h (m.contents middle)) middle host)
-    → (h : History) → IsAt m h start old → IsUpToDate m h old → EachImage m (GoesOn (n + 1) h (m.contents old)) old host
+    → (h : History) → IsCheckpoint m h start old → IsUpToDate m h old → EachImage m (GoesOn (n + 1) h (m.contents old)) old host
 run_images {m = m} n {old = old} {middle = middle} run images h at up =
     let done = run.plays h at up in
     let before = m.contents old in
@@ -116,8 +116,8 @@ is_apart run some = λ same. omega (arith, run.left)
 -- one tick more
 pub run_more : {H T : Type 0} {m : HostModel H} (n : ℕ) {start journal next : Counters} {cache more : CacheValue}
     {old middle host : H} {result : Result T Refusal} → HasRun m n start journal cache old middle
-    → n < ticks_left start.progress → IsOk result → IsSettled m more host → HasStepped m journal next middle host
-    → ((h : History) → IsAt m h journal middle → IsUpToDate m h middle
+    → n < ticks_left start.progress → IsOk result → IsFlushed m more host → HasStepped m journal next middle host
+    → ((h : History) → IsCheckpoint m h journal middle → IsUpToDate m h middle
     → EachImage m (GoesOn 1 h (m.contents middle)) middle host)
     → RanSession m KeepsApart middle host result → HasRun m (n + 1) start next more old host
 run_more {m = m} n {start} {journal} {next} {old = old} {middle = middle} {host = host} run some ok settled stepped images ran = record {

@@ -1,6 +1,6 @@
 -- The second reading of the initial snapshot, which copies its bodies into a file: what was copied so far, and why the copy is
 -- refused.
-use Rattle.std.proofs.Common.{◌≡◌, ◌≢◌, ◌⊎◌, inl, inr, ℕ, zero, suc, ◌+◌, ◌^◌, ◌<◌, ◌≤◌, ◌==◌, ◌&&◌, true, not, cond, IsTrue, Some, List, [], ◌∷◌, ◌++◌, length, take, refl, sym, ap, subst, ◌∙◌, arith}
+use Rattle.std.proofs.Common.{◌≡◌, ◌≢◌, ◌⊎◌, inl, inr, ℕ, zero, suc, ◌+◌, ◌^◌, ◌<◌, ◌≤◌, ◌==◌, ◌&&◌, true, false, not, cond, IsTrue, Some, List, [], ◌∷◌, ◌++◌, length, take, refl, sym, ap, subst, ◌∙◌, arith}
 use Rattle.std.specs.Prelude.{Contains}
 use Rattle.std.proofs.lemmas.Bool.Decides.{nat_tests}
 use Rattle.std.proofs.lemmas.List.Elements.{Contains-append_cases}
@@ -29,9 +29,9 @@ use Rattle.nb_cache.proofs.Callers.{no_file}
 use Rattle.nb_record.specs.Order.{HoldsBodies}
 use Rattle.nb_order.specs.declared.order_error.OrderError.{OrderError}
 use Rattle.nb_order.specs.declared.order_error.OrderError.TheVariants as order
-use Rattle.nb_order.specs.Files.{page_of_body, HasPushed}
+use Rattle.nb_order.specs.Files.{HasPushed}
 use Rattle.nb_order.specs.Refusals.{HasNoRoom}
-use Rattle.nb_tick.specs.Slots.{slot_of, drifted_file}
+use Rattle.nb_tick.specs.Slots.{drifted_file}
 use Rattle.nb_engine.specs.declared.init_file.Census.{Census}
 use Rattle.nb_engine.specs.declared.refusal.Refusal.{Refusal}
 use Rattle.nb_engine.specs.declared.refusal.Refusal.TheVariants as refusal
@@ -40,7 +40,7 @@ use Rattle.nb_engine.specs.Files.{init_file}
 use Rattle.nb_engine.specs.Reading.{census_of, IsPlanned}
 use Rattle.nb_engine.specs.Refusal.{NeedsNoCause, of_second_reading, of_cache, of_order}
 use Rattle.nb_engine.specs.Snapshots.{IsBroken}
-use Rattle.nb_engine.specs.Start.{IsReadFile}
+use Rattle.nb_engine.specs.Start.{place_of_body, IsCopyEnd, IsReadPlace}
 use Rattle.nb_engine.proofs.CachedCalls.{WentWell}
 use Rattle.nb_engine.proofs.Reading.{HasGiven, HasGiven-more, IsFrontOf-same}
 use Rattle.nb_engine.proofs.Surveys.{census-more}
@@ -79,74 +79,72 @@ cache_needless cache.NoMemory no_page = inr refl
 cache_needless (cache.Short name) no_page = absurd (no_page name refl)
 
 -- the initial snapshot isn't what it was
-pub init_broken : {H : Type 0} {m : HostModel H} (Holds : List Body → Type 0) (index : ℕ)
-    → (IsTrue m.tells → (bodies : List Body) → Holds bodies → ⊥)
-    → IsBroken m IsReadFile Holds (refusal.Damaged (record { file = init_file; page = index }))
-init_broken Holds index never = record {
-  page = record { file = init_file; page = index };
+pub init_broken : {H : Type 0} {m : HostModel H} (IsPage : PageName → Type 0) (Holds : List Body → Type 0) (index : ℕ)
+    → IsPage (place_of_body index) → (IsTrue m.tells → (bodies : List Body) → Holds bodies → ⊥)
+    → IsBroken m IsPage Holds (refusal.Damaged (place_of_body index))
+init_broken IsPage Holds index place never = record {
+  page = place_of_body index;
   shown = refl;
-  file = inl refl;
+  place = place;
   cause = never;
 }
 
-pub broken_more : {H : Type 0} {m : HostModel H} (Few More : List Body → Type 0) {why : Refusal} → IsBroken m IsReadFile Few why
-    → (IsTrue m.tells → (bodies : List Body) → More bodies → Few bodies) → IsBroken m IsReadFile More why
-broken_more Few More broken more = record {
-  page = broken.page;
-  shown = broken.shown;
-  file = broken.file;
-  cause = λ tells bodies holds. broken.cause tells bodies (more tells bodies holds);
-}
-
-pub cause_more : {H : Type 0} {m : HostModel H} (Few More : List Body → Type 0) {why : Refusal}
-    → NeedsNoCause why ⊎ IsBroken m IsReadFile Few why → (IsTrue m.tells → (bodies : List Body) → More bodies → Few bodies)
-    → NeedsNoCause why ⊎ IsBroken m IsReadFile More why
-cause_more Few More cause more = elim cause [ inl needless ↦ inl needless | inr broken ↦ inr (broken_more Few More broken more) ]
+-- one of these pages is one of those, and who holds more holds less
+pub cause_more : {H : Type 0} {m : HostModel H} (These Those : PageName → Type 0) (Few More : List Body → Type 0) {why : Refusal}
+    → NeedsNoCause why ⊎ IsBroken m These Few why → ((page : PageName) → These page → Those page)
+    → (IsTrue m.tells → (bodies : List Body) → More bodies → Few bodies) → NeedsNoCause why ⊎ IsBroken m Those More why
+cause_more These Those Few More cause those more = elim cause [
+  | inl needless ↦ inl needless
+  | inr broken ↦
+      inr (record {
+        page = broken.page;
+        shown = broken.shown;
+        place = those broken.page broken.place;
+        cause = λ tells bodies holds. broken.cause tells bodies (more tells bodies holds);
+      })
+]
 
 -- why a reader's refusal of a second reading is one
-pub second_cause : {H : Type 0} {m : HostModel H} (Holds : List Body → Type 0) (error : SnapError) (index : ℕ)
+pub second_cause : {H : Type 0} {m : HostModel H} (IsPage : PageName → Type 0) (Holds : List Body → Type 0) (error : SnapError)
+    (index : ℕ) → (IsBySnapshot error → IsPage (place_of_body index))
     → (IsBySnapshot error → IsTrue m.tells → (bodies : List Body) → Holds bodies → ⊥)
-    → NeedsNoCause (of_second_reading error index) ⊎ IsBroken m IsReadFile Holds (of_second_reading error index)
-second_cause Holds snap.Fault index never = inl (inl refl)
-second_cause Holds snap.NoMemory index never = inl (inr refl)
-second_cause Holds snap.Short index never = inr (init_broken Holds index (never tt))
-second_cause Holds snap.Unfinished index never = inr (init_broken Holds index (never tt))
-second_cause Holds snap.Magic index never = inr (init_broken Holds index (never tt))
-second_cause Holds snap.Count index never = inr (init_broken Holds index (never tt))
-second_cause Holds snap.Zeros index never = inr (init_broken Holds index (never tt))
-second_cause Holds snap.Length index never = inr (init_broken Holds index (never tt))
-second_cause Holds (snap.IdOrder i) index never = inr (init_broken Holds index (never tt))
-second_cause Holds (snap.Mass i) index never = inr (init_broken Holds index (never tt))
-second_cause Holds (snap.Flag i) index never = inr (init_broken Holds index (never tt))
-second_cause Holds (snap.Place i) index never = inr (init_broken Holds index (never tt))
-second_cause Holds (snap.Speed i) index never = inr (init_broken Holds index (never tt))
+    → NeedsNoCause (of_second_reading error index) ⊎ IsBroken m IsPage Holds (of_second_reading error index)
+second_cause IsPage Holds snap.Fault index place never = inl (inl refl)
+second_cause IsPage Holds snap.NoMemory index place never = inl (inr refl)
+second_cause IsPage Holds snap.Short index place never = inr (init_broken IsPage Holds index (place tt) (never tt))
+second_cause IsPage Holds snap.Unfinished index place never = inr (init_broken IsPage Holds index (place tt) (never tt))
+second_cause IsPage Holds snap.Magic index place never = inr (init_broken IsPage Holds index (place tt) (never tt))
+second_cause IsPage Holds snap.Count index place never = inr (init_broken IsPage Holds index (place tt) (never tt))
+second_cause IsPage Holds snap.Zeros index place never = inr (init_broken IsPage Holds index (place tt) (never tt))
+second_cause IsPage Holds snap.Length index place never = inr (init_broken IsPage Holds index (place tt) (never tt))
+second_cause IsPage Holds (snap.IdOrder i) index place never = inr (init_broken IsPage Holds index (place tt) (never tt))
+second_cause IsPage Holds (snap.Mass i) index place never = inr (init_broken IsPage Holds index (place tt) (never tt))
+second_cause IsPage Holds (snap.Flag i) index place never = inr (init_broken IsPage Holds index (place tt) (never tt))
+second_cause IsPage Holds (snap.Place i) index place never = inr (init_broken IsPage Holds index (place tt) (never tt))
+second_cause IsPage Holds (snap.Speed i) index place never = inr (init_broken IsPage Holds index (place tt) (never tt))
 
 -- what is refused is no snapshot
 pub refused_never : {file : List ℕ} {error : SnapError} → snapshot_refusal file ≡ Some error
     → (bodies : List Body) (time : ℕ) → IsSnapshot file bodies time → ⊥
 refused_never {file} {error} refused = no_snapshot file error refused
 
--- why a refusal of a file of bodies is one, where the damaged page is one of a file that `start` reads
-pub order_cause : {H : Type 0} {m : HostModel H} (Holds : List Body → Type 0) (error : OrderError)
+-- why a refusal of a file of bodies is one, where the damaged page is one of these
+pub order_cause : {H : Type 0} {m : HostModel H} (IsPage : PageName → Type 0) (Holds : List Body → Type 0) (error : OrderError)
     → ((name : PageName) → error ≡ order.Damaged name
-    → IsReadFile name.file × (IsTrue m.tells → (bodies : List Body) → Holds bodies → ⊥))
-    → NeedsNoCause (of_order error) ⊎ IsBroken m IsReadFile Holds (of_order error)
-order_cause Holds order.Fault damaged = inl (inl refl)
-order_cause Holds order.NoMemory damaged = inl (inr refl)
-order_cause Holds (order.Damaged name) damaged =
+    → IsPage name × (IsTrue m.tells → (bodies : List Body) → Holds bodies → ⊥))
+    → NeedsNoCause (of_order error) ⊎ IsBroken m IsPage Holds (of_order error)
+order_cause IsPage Holds order.Fault damaged = inl (inl refl)
+order_cause IsPage Holds order.NoMemory damaged = inl (inr refl)
+order_cause IsPage Holds (order.Damaged name) damaged =
     let known = damaged name refl in
-    inr (record { page = name; shown = refl; file = known.0; cause = known.1 })
+    inr (record { page = name; shown = refl; place = known.0; cause = known.1 })
 
--- the files of the copy and of the first slot are such files
-pub drifted_read : {number : ℕ} → number ≡ drifted_file → IsReadFile number
-drifted_read is = inr (omega (arith, is), omega (arith, is))
-
-pub slot_read : {number : ℕ} → number ≡ slot_of 0 → IsReadFile number
-slot_read is = inr (omega (arith, is), omega (arith, is))
-
--- a page of the copy's file is one of such a file
-pub page_read : {name : PageName} (index : ℕ) → name ≡ page_of_body drifted_file index → IsReadFile name.file
-page_read index is = drifted_read (ap (λ (n : PageName). n.file) is)
+-- a body at which a copy ends is one of those that are read
+pub end_read : {H : Type 0} {m : HostModel H} {reader : SnapReader} {cache : CacheValue} {host : H} {count : ℕ}
+    → count_of reader ≡ count → (page : PageName) → IsCopyEnd m reader cache host page → IsReadPlace count page
+end_read {count = count} same page end =
+    let below : end.index < count = subst (λ (n : ℕ). end.index < n) same end.below in
+    elim end.place [ inl one ↦ inr (end.index, below, inl one.0) | inr other ↦ inr (end.index, below, inr other.0) ]
 
 -- ---- the file of the snapshot, while the bodies are copied
 
@@ -225,6 +223,22 @@ pub seen_still : {H : Type 0} {m : HostModel H} (cache : CacheValue) {old new : 
     → seen m cache new file ≡ seen m cache old file
 seen_still cache file leads = ap (λ (i : Image). view_of cache i file) (stays_contents leads)
 
+-- The reader isn't at its end, so its next body is one of those that the header tells.
+pub next_below : {H : Type 0} {m : HostModel H} {start reader : SnapReader} {census : Census}
+    {old_cache cache : CacheValue} {old host : H} → HasCopied m start old_cache old reader census cache host
+    → read_count reader ≢ count_of reader → census.count < count_of start
+next_below {start = start} {reader = reader} {census = census} copied unended =
+    let given = copied.given in
+    let count : census.count ≡ length copied.bodies = ap (λ (c : Census). c.count) copied.counted in
+    let more : length copied.bodies ≢ count_of start = λ all. unended (given.read ∙ all ∙ sym given.count) in
+    omega (arith, given.within)
+
+-- and its number is how many were counted
+pub next_number : {H : Type 0} {m : HostModel H} {start reader : SnapReader} {census : Census}
+    {old_cache cache : CacheValue} {old host : H} → HasCopied m start old_cache old reader census cache host
+    → read_count reader ≡ census.count
+next_number copied = copied.given.read ∙ sym (ap (λ (c : Census). c.count) copied.counted)
+
 -- where so many bodies were copied, there is room for one more
 pub room_left : {H : Type 0} {m : HostModel H} {start reader : SnapReader} {census : Census}
     {old_cache cache : CacheValue} {old host middle : H}
@@ -292,6 +306,14 @@ pub census_same : {plan : Plan} {bodies copied : List Body} {census : Census} {f
 census_same same planned read is = is ∙ ap census_of (read_same same planned read) ∙ sym planned.census
 
 -- what a test tells of two
+pub censuses_same : (a b : Census) → false ≡ not ((a.count == b.count) && ((a.mass == b.mass) && (a.gone == b.gone))) → a ≡ b
+censuses_same a b test =
+    let count : a.count ≡ b.count = grind (arith, nat_tests) in
+    let mass : a.mass ≡ b.mass = grind (arith, nat_tests) in
+    let gone : a.gone ≡ b.gone = grind (arith, nat_tests) in
+    ap (λ (n : ℕ). record a { count = n }) count ∙ ap (λ (n : ℕ). record a { count = b.count; mass = n }) mass
+    ∙ ap (λ (n : ℕ). record b { gone = n }) gone
+
 pub censuses_differ : (a b : Census) → a ≡ b → true ≡ not ((a.count == b.count) && ((a.mass == b.mass) && (a.gone == b.gone))) → ⊥
 censuses_differ a b same differ =
     let count : a.count ≡ b.count = ap (λ (c : Census). c.count) same in

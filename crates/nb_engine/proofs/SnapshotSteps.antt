@@ -4,6 +4,7 @@ use Rattle.std.proofs.Common.{◌≡◌, ◌≢◌, ℕ, zero, suc, ◌+◌, ◌
 use Rattle.std.specs.Prelude.{◌⊎◌, Contains, IfSome, slice_get}
 use Rattle.std.specs.Option.{ForSome}
 use Rattle.std.specs.List.Sorted.{IsStrictlyIncreasing}
+use Rattle.std.proofs.lemmas.Bool.{cases_lt}
 use Rattle.std.proofs.lemmas.List.{take_more, take_all}
 use Rattle.std.proofs.lemmas.List.Elements.{Contains-append_cases, Contains-append_right}
 use Rattle.std.proofs.lemmas.Option.{get_or_from_slice_get, slice_get_within}
@@ -26,23 +27,23 @@ use Rattle.nb_cache.specs.InStep.{IsCachedFile}
 use Rattle.nb_cache.specs.View.{CacheValue, overlaid, seen}
 use Rattle.nb_cache.specs.Writes.{Writes, RanCached}
 use Rattle.nb_cache.proofs.Callers.{no_file, step_file}
-use Rattle.nb_record.specs.Order.{by_key, by_id, sorted_by, HoldsBodies}
+use Rattle.nb_record.specs.Order.{record_of, by_key, by_id, sorted_by, HoldsBodies}
+use Rattle.nb_record.specs.Records.{body_of}
 use Rattle.nb_record.proofs.Callers.{permuted, length-sorted_by, different_ids, different_permuted}
 use Rattle.nb_order.specs.declared.order_error.OrderError.{OrderError}
 use Rattle.nb_order.specs.declared.order_error.OrderError.TheVariants as order
-use Rattle.nb_order.specs.Files.{page_of_body, IsSortedCopy}
+use Rattle.nb_order.specs.Files.{page_of_body, HasBody, IsSortedCopy}
 use Rattle.nb_order.specs.Refusals.{IsNoBody, IsUnsorted}
 use Rattle.nb_tick.specs.Slots.{slot_of, sorted_file}
 use Rattle.nb_tick.proofs.Callers.{seen_written}
 use Rattle.nb_journal.specs.Counters.{Counters}
 use Rattle.nb_engine.specs.declared.refusal.Refusal.{Refusal}
 use Rattle.nb_engine.specs.declared.refusal.Refusal.TheVariants as refusal
-use Rattle.nb_engine.specs.Files.{IsPagedFile}
 use Rattle.nb_engine.specs.Frame.{RanSession}
 use Rattle.nb_engine.specs.Refusal.{of_host, of_order, NeedsNoCause}
 use Rattle.nb_engine.specs.Represents.{snap_of}
-use Rattle.nb_engine.specs.Snapshots.{snapshot_files, HoldsByIds, HoldsByKeys, IsBroken}
-use Rattle.nb_engine.specs.Steps.{IsSettled}
+use Rattle.nb_engine.specs.Snapshots.{snapshot_files, HoldsByIds, HoldsByKeys, EndsBefore, IsEnd, IsSnapshotPage, IsBroken}
+use Rattle.nb_engine.specs.Steps.{IsFlushed}
 use Rattle.nb_engine.proofs.Callers.{sorted_back}
 use Rattle.nb_engine.proofs.Frames.{session_none, session_ran, session_syncing, session_cached, session_then, session_as, session_by}
 
@@ -97,9 +98,6 @@ order_cause (order.Damaged name) named = inr (named name refl)
 never_cached : (file : ℕ) → 16 ≤ file → IsCachedFile file → ⊥
 never_cached file high cached = absurd (omega (arith, cached.greatest))
 
-sorted_paged : IsPagedFile sorted_file
-sorted_paged = (omega arith, omega arith)
-
 sorted_apart : (file : ℕ) → 16 ≤ file → sorted_file ≢ file
 sorted_apart file high same = absurd (omega (arith, same))
 
@@ -132,15 +130,15 @@ agrees_again before after = record {
 
 -- a call that takes a cache and writes at most the sorted file
 pub settled_leads : {H : Type 0} {m : HostModel H} {files : List ℕ} {old_cache new_cache : CacheValue} {old new : H}
-    → ((file : ℕ) → Contains files file → file ≡ sorted_file) → IsSettled m old_cache old
+    → ((file : ℕ) → Contains files file → file ≡ sorted_file) → IsFlushed m old_cache old
     → Writes m files old_cache old new_cache new → Leads m (AgreesOutside (sorted_file ∷ [])) old new
 settled_leads {files = files} {old_cache = old_cache} only settled writes =
     leads_more writes.leads (λ start image agrees. agrees_more
     (λ file has. (0, omega arith, sym (either_but files old_cache.unwritten only settled.unwritten file has))) agrees)
 
 pub settled_after : {H : Type 0} {m : HostModel H} {files : List ℕ} {old_cache new_cache : CacheValue} {old new : H}
-    → ((file : ℕ) → Contains files file → file ≡ sorted_file) → IsSettled m old_cache old
-    → Writes m files old_cache old new_cache new → IsSettled m new_cache new
+    → ((file : ℕ) → Contains files file → file ≡ sorted_file) → IsFlushed m old_cache old
+    → Writes m files old_cache old new_cache new → IsFlushed m new_cache new
 settled_after {files = files} {old_cache = old_cache} only settled writes = record {
   in_step = writes.in_step;
   unwritten = λ file has. either_but files old_cache.unwritten only settled.unwritten file (writes.unwritten file has);
@@ -148,7 +146,7 @@ settled_after {files = files} {old_cache = old_cache} only settled writes = reco
 
 -- a call of the host itself on the file of a snapshot
 pub settled_file : {H : Type 0} {m : HostModel H} {cache : CacheValue} {file : ℕ} {P : List ℕ → List ℕ → Type 0} {old new : H}
-    → 16 ≤ file → Leads m (FileBecomes file P) old new → IsSettled m cache old → IsSettled m cache new
+    → 16 ≤ file → Leads m (FileBecomes file P) old new → IsFlushed m cache old → IsFlushed m cache new
 settled_file {cache = cache} {file = file} high leads settled = record {
   in_step = step_file cache (never_cached file high) leads settled.in_step;
   unwritten = settled.unwritten;
@@ -321,16 +319,23 @@ pub record HasAdded {H : Type 0} (m : HostModel H) (old_cache : CacheValue) (old
   pub first_ones : IsTrue m.tells → (list : List Body) → HoldsByIds count list (seen m old_cache old sorted_file)
       → bodies ≡ take index list
 
+-- The last id, if there is one, is that of the body before this one.
+abbrev pub IsBefore : ℕ → Option ℕ → List ℕ → Type 0
+IsBefore index last file =
+    (id : ℕ) → last ≡ Some id → (before : ℕ) × (index ≡ suc before) × (id ≡ (body_of (record_of file before)).id)
+
 -- So many bodies of the sorted file were added to a snapshot since, and no call failed.
 pub record Adding {H : Type 0} (m : HostModel H) (first : Filling) (old_cache : CacheValue) (old : H) (count index : ℕ) (last : Option ℕ) (filling : Filling) (cache : CacheValue) (now : H) : Type 0 where
   pub planned : plan_of filling ≡ plan_of first
   pub added : added_count filling ≡ index
   pub last_is : last ≡ last_added filling
-  pub settled : IsSettled m cache now
+  pub settled : IsFlushed m cache now
+  pub pages : cache.pages ≡ old_cache.pages
   pub view : IsTrue m.tells → seen m cache now sorted_file ≡ seen m old_cache old sorted_file
   pub went : WentWell m (sorted_file ∷ (plan_of first).file ∷ []) old now
   pub listed : IsTrue m.tells → (list : List Body) → HoldsByIds count list (seen m old_cache old sorted_file)
       → last ≡ last_of (take index list)
+  pub before : IsTrue m.tells → IsBefore index last (seen m old_cache old sorted_file)
   pub being : (plan : Plan) (start : H) → IsBeingWritten m (sorted_file ∷ []) plan first [] start old
       → HasAdded m old_cache old count index plan filling start now
 
@@ -338,16 +343,18 @@ well_none : {H : Type 0} (m : HostModel H) (files : List ℕ) (now : H) → Went
 well_none m files now = session_none m now (agrees_itself files) (λ same. never_device same)
 
 pub adding_none : {H : Type 0} (m : HostModel H) (first : Filling) (cache : CacheValue) (now : H) (count : ℕ)
-    → added_count first ≡ 0 → last_added first ≡ None → IsSettled m cache now
+    → added_count first ≡ 0 → last_added first ≡ None → IsFlushed m cache now
     → Adding m first cache now count 0 None first cache now
 adding_none m first cache now count none none_last settled = record {
   planned = refl;
   added = none;
   last_is = sym none_last;
   settled = settled;
+  pages = refl;
   view = λ tells. refl;
   went = well_none m (sorted_file ∷ (plan_of first).file ∷ []) now;
   listed = λ tells list holds. refl;
+  before = λ tells id some. absurd (cc);
   being = λ plan start is. record { bodies = []; being = is; first_ones = λ tells list holds. refl };
 }
 
@@ -368,10 +375,12 @@ adding_read {first = first} high adding ran ok =
       added = adding.added;
       last_is = adding.last_is;
       settled = settled_after none_but adding.settled ran.writes;
+      pages = ran.writes.pages ∙ adding.pages;
       view = λ tells. ran.writes.view tells sorted_file (no_file sorted_file) ∙ adding.view tells;
       went = well_then adding.went is_ok
           (well_cached ran ok (sorted_agrees (sorted_file ∷ (plan_of first).file ∷ []) (0, omega arith, refl) leads));
       listed = adding.listed;
+      before = adding.before;
       being = λ plan start is.
           let has = adding.being plan start is in
           record {
@@ -401,18 +410,46 @@ pub read_there : {H : Type 0} {m : HostModel H} {first filling : Filling} {old_c
 read_there body adding listed tells list holds =
     listed tells list (subst (λ (file : List ℕ). HoldsBodies file list) (sym (adding.view tells)) holds.holds)
 
--- where that has no id above the last one, the sorted file held none
+-- and it is what the file's record says
+pub record_there : {H : Type 0} {m : HostModel H} {first filling : Filling} {old_cache cache : CacheValue} {count index : ℕ}
+    {last : Option ℕ} {old now : H} (body : Body) → Adding m first old_cache old count index last filling cache now
+    → (IsTrue m.tells → HasBody (seen m cache now sorted_file) index
+    × (body ≡ body_of (record_of (seen m cache now sorted_file) index)))
+    → IsTrue m.tells → body ≡ body_of (record_of (seen m old_cache old sorted_file) index)
+record_there {index = index} body adding read tells =
+    subst (λ (file : List ℕ). body ≡ body_of (record_of file index)) (adding.view tells) (read tells).1
+
+-- where its id isn't above the last one, the bodies end before it
+ends_low : (index : ℕ) (last : Option ℕ) (file : List ℕ) (body : Body) → body ≡ body_of (record_of file index)
+    → (ForSome last (λ before. before < body.id) → ⊥) → IsBefore index last file → EndsBefore index file
+ends_low index None file body is low before = absurd (low (λ id some. absurd (cc)))
+ends_low index (Some last) file body is low before =
+    let at = before last refl in
+    let id = ap (λ (b : Body). b.id) is in
+    elim (cases_lt last body.id) [
+      | inl above ↦ absurd (low (λ other same. let one : last ≡ other = cc in subst (λ (n : ℕ). n < body.id) one above))
+      | inr below ↦ inr (at.0, at.1, omega (arith, below, id, at.2))
+    ]
+
+-- and the sorted file held none
 pub not_behind : {H : Type 0} {m : HostModel H} {first filling : Filling} {old_cache cache : CacheValue} {count index : ℕ}
     {last : Option ℕ} {old now : H} (body : Body) → Adding m first old_cache old count index last filling cache now
+    → index < count
     → (IsTrue m.tells → (list : List Body) → HoldsByIds count list (seen m old_cache old sorted_file)
     → slice_get list index ≡ Some body)
+    → (IsTrue m.tells → body ≡ body_of (record_of (seen m old_cache old sorted_file) index))
     → (ForSome last (λ before. before < body.id) → ⊥) → (why : Refusal) (name : PageName) → why ≡ refusal.Damaged name
     → name ≡ page_of_body sorted_file index
-    → IsBroken m IsPagedFile (λ list. HoldsByIds count list (seen m old_cache old sorted_file)) why
-not_behind {index = index} {last = last} body adding there low why name shown page = record {
+    → IsBroken m (IsEnd m count old_cache old) (λ list. HoldsByIds count list (seen m old_cache old sorted_file)) why
+not_behind {index = index} {last = last} body adding below there read low why name shown page = record {
   page = name;
   shown = shown;
-  file = subst IsPagedFile (sym (ap (λ (n : PageName). n.file) page)) sorted_paged;
+  place = record {
+    index = index;
+    below = below;
+    page_is = page;
+    ends = λ tells. ends_low index last _ body (read tells) low (adding.before tells);
+  };
   cause = λ tells list holds.
       low (behind_last list index body last (there tells list holds) holds.rises (adding.listed tells list holds));
 }
@@ -421,11 +458,18 @@ not_behind {index = index} {last = last} body adding there low why name shown pa
 pub no_body : {H : Type 0} {m : HostModel H} {first filling : Filling} {old_cache cache : CacheValue} {count index : ℕ}
     {last : Option ℕ} {old now : H} → Adding m first old_cache old count index last filling cache now → index < count
     → (name : PageName) → IsNoBody m cache now sorted_file index name
-    → IsBroken m IsPagedFile (λ list. HoldsByIds count list (seen m old_cache old sorted_file)) (refusal.Damaged name)
-no_body adding below name none = record {
+    → IsBroken m (IsEnd m count old_cache old) (λ list. HoldsByIds count list (seen m old_cache old sorted_file))
+    (refusal.Damaged name)
+no_body {index = index} adding below name none = record {
   page = name;
   shown = refl;
-  file = subst IsPagedFile (sym (ap (λ (n : PageName). n.file) none.page)) sorted_paged;
+  place = record {
+    index = index;
+    below = below;
+    page_is = none.page;
+    ends = λ tells.
+        inl (λ has. none.cause tells (subst (λ (file : List ℕ). HasBody file index) (sym (adding.view tells)) has));
+  };
   cause = λ tells list holds.
       let few = none.listed tells list (subst (λ (file : List ℕ). HoldsBodies file list) (sym (adding.view tells)) holds.holds) in
       absurd (omega (arith, few, holds.count_is));
@@ -443,12 +487,13 @@ pub adding_added : {H T E : Type 0} {m : HostModel H} {fault : E} {first filling
     → Adding m first old_cache old count index last filling cache now
     → (IsTrue m.tells → (list : List Body) → HoldsByIds count list (seen m old_cache old sorted_file)
     → slice_get list index ≡ Some body)
+    → (IsTrue m.tells → body ≡ body_of (record_of (seen m old_cache old sorted_file) index))
     → HasOneMore body filling next
     → ((bodies : List Body) → IsTrue m.tells → HasFilled filling ((m.contents now).file (plan_of filling).file) bodies
     → HasFilled next ((m.contents new).file (plan_of filling).file) (bodies ++ body ∷ []))
     → Ran m fault (FileBecomes (plan_of filling).file StaysShut) now new one → IsOk one
     → Adding m first old_cache old count (index + 1) (Some body.id) next cache new
-adding_added {first = first} {filling = filling} {cache = cache} {index = index} body high adding there more filled ran ok =
+adding_added {first = first} {filling = filling} {cache = cache} {index = index} body high adding there read more filled ran ok =
     let here = subst (λ (p : Plan). 16 ≤ p.file) (sym adding.planned) high in
     let files = sorted_file ∷ (plan_of first).file ∷ [] in
     record {
@@ -456,12 +501,15 @@ adding_added {first = first} {filling = filling} {cache = cache} {index = index}
       added = more.added ∙ ap (λ (n : ℕ). n + 1) adding.added;
       last_is = sym more.last;
       settled = settled_file here ran.leads adding.settled;
+      pages = adding.pages;
       view = λ tells. seen_file cache here ran.leads tells ∙ adding.view tells;
       went = well_then adding.went is_ok
           (well_ran ran ok
           (file_agrees files (adding_file adding) ran.leads));
       listed = λ tells list holds.
           sym (ap last_of (take_next list index body (there tells list holds)) ∙ last_of-push (take index list) body);
+      before = λ tells id some.
+          let here : body.id ≡ id = cc in (index, omega arith, sym here ∙ ap (λ (b : Body). b.id) (read tells));
       being = λ plan start is.
           let has = adding.being plan start is in
           record {
@@ -520,11 +568,8 @@ SlotHolds m journal host bodies =
 slot_apart : (slot k : ℕ) → slot ≡ slot_of k → slot ≢ sorted_file
 slot_apart slot k is same = absurd (omega (arith, is, same))
 
-slot_paged : (slot k : ℕ) → slot ≡ slot_of k → IsPagedFile slot
-slot_paged slot k is = (omega (arith, is), omega (arith, is))
-
 -- what a settled cache shows of the slot is the host's
-slot_seen : {H : Type 0} {m : HostModel H} {cache : CacheValue} {now : H} (slot k : ℕ) → slot ≡ slot_of k → IsSettled m cache now
+slot_seen : {H : Type 0} {m : HostModel H} {cache : CacheValue} {now : H} (slot k : ℕ) → slot ≡ slot_of k → IsFlushed m cache now
     → IsTrue m.tells → seen m cache now slot ≡ (m.contents now).file (slot_of k)
 slot_seen {m = m} {cache = cache} {now = now} slot k is settled tells =
     seen_written m cache now slot (λ has. slot_apart slot k is (settled.unwritten slot has)) settled.in_step tells
@@ -532,14 +577,14 @@ slot_seen {m = m} {cache = cache} {now = now} slot k is settled tells =
 
 -- The bodies of the slot stand in the sorted file, in the order of their ids.
 pub record Ordered {H : Type 0} (m : HostModel H) (journal : Counters) (old : H) (cache : CacheValue) (now : H) : Type 0 where
-  pub settled : IsSettled m cache now
+  pub settled : IsFlushed m cache now
   pub leads : Leads m (AgreesOutside (sorted_file ∷ [])) old now
   pub holds : IsTrue m.tells → (bodies : List Body) → SlotHolds m journal old bodies
       → HoldsByIds journal.count bodies (seen m cache now sorted_file)
 
 pub ordered : {H T E : Type 0} {m : HostModel H} {fault : E} (journal : Counters) {old_cache cache : CacheValue} {old now : H}
     {one : Result T E} {slot count : ℕ} → slot ≡ slot_of journal.progress.ticks → count ≡ journal.count
-    → IsSettled m old_cache old → RanCached m fault (sorted_file ∷ []) old_cache old cache now one
+    → IsFlushed m old_cache old → RanCached m fault (sorted_file ∷ []) old_cache old cache now one
     → (IsTrue m.tells → IsSortedCopy by_id count (seen m old_cache old slot) (seen m cache now sorted_file))
     → Ordered m journal old cache now
 ordered {m = m} journal {cache = cache} {now = now} {slot = slot} here many settled ran sorted = record {
@@ -559,16 +604,13 @@ ordered {m = m} journal {cache = cache} {now = now} {slot = slot} here many sett
 
 -- where they can't be put into that order, the slot holds none
 pub unordered : {H : Type 0} {m : HostModel H} (journal : Counters) {cache : CacheValue} {old : H} {slot count : ℕ}
-    → slot ≡ slot_of journal.progress.ticks → count ≡ journal.count → IsSettled m cache old → (name : PageName)
+    → slot ≡ slot_of journal.progress.ticks → count ≡ journal.count → IsFlushed m cache old → (name : PageName)
     → IsUnsorted m by_id cache old slot sorted_file count name
-    → IsBroken m IsPagedFile (SlotHolds m journal old) (refusal.Damaged name)
+    → IsBroken m (IsSnapshotPage journal.progress.ticks) (SlotHolds m journal old) (refusal.Damaged name)
 unordered {m = m} journal {slot = slot} here many settled name none = record {
   page = name;
   shown = refl;
-  file = elim none.file [
-    | inl one ↦ subst IsPagedFile (sym one) (slot_paged slot journal.progress.ticks here)
-    | inr other ↦ subst IsPagedFile (sym other) sorted_paged
-  ];
+  place = elim none.file [ inl one ↦ inl (one ∙ here) | inr other ↦ inr other ];
   cause = λ tells bodies keys.
       let list = sorted_by by_key bodies in
       let same = slot_seen slot journal.progress.ticks here settled tells in
@@ -579,7 +621,7 @@ unordered {m = m} journal {slot = slot} here many settled name none = record {
 
 -- The snapshot is begun, and its bodies stand in the sorted file.
 pub record Begun {H : Type 0} (m : HostModel H) (journal : Counters) (old : H) (filling : Filling) (cache : CacheValue) (now : H) : Type 0 where
-  pub settled : IsSettled m cache now
+  pub settled : IsFlushed m cache now
   pub being : IsBeingWritten m (sorted_file ∷ []) (snap_plan journal) filling [] old now
   pub holds : IsTrue m.tells → (bodies : List Body) → SlotHolds m journal old bodies
       → HoldsByIds journal.count bodies (seen m cache now sorted_file)
@@ -662,8 +704,9 @@ closed_snapshot {m = m} journal {bodies = bodies} {new = new} tells being finish
 -- Where the sorted file was said to hold none by ids, the slot holds none.
 pub broken_slot : {H : Type 0} {m : HostModel H} {journal : Counters} {old now : H} {cache : CacheValue} {count : ℕ}
     {filling : Filling} → count ≡ journal.count → Begun m journal old filling cache now → (why : Refusal)
-    → NeedsNoCause why ⊎ IsBroken m IsPagedFile (λ list. HoldsByIds count list (seen m cache now sorted_file)) why
-    → NeedsNoCause why ⊎ IsBroken m IsPagedFile (SlotHolds m journal old) why
+    → NeedsNoCause why
+    ⊎ IsBroken m (IsEnd m count cache now) (λ list. HoldsByIds count list (seen m cache now sorted_file)) why
+    → NeedsNoCause why ⊎ IsBroken m (IsSnapshotPage journal.progress.ticks) (SlotHolds m journal old) why
 broken_slot {m = m} {now = now} {cache = cache} many start why cause =
     elim cause [
       | inl none ↦ inl none
@@ -671,7 +714,7 @@ broken_slot {m = m} {now = now} {cache = cache} many start why cause =
           inr (record {
             page = broken.page;
             shown = broken.shown;
-            file = broken.file;
+            place = inr (ap (λ (n : PageName). n.file) broken.place.page_is);
             cause = λ tells bodies keys.
                 broken.cause tells bodies
                 (subst (λ (n : ℕ). HoldsByIds n bodies (seen m cache now sorted_file)) (sym many) (start.holds tells bodies keys));

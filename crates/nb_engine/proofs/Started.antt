@@ -15,7 +15,7 @@ use Rattle.nb_engine.specs.declared.refusal.Refusal.{Refusal}
 use Rattle.nb_engine.specs.declared.refusal.Refusal.TheVariants as refusal
 use Rattle.nb_engine.specs.Files.{init_file}
 use Rattle.nb_engine.specs.Histories.{IsHistory}
-use Rattle.nb_engine.specs.Start.{Start, HasStart, start_refusal, started, IsBegun}
+use Rattle.nb_engine.specs.Start.{Start, HasStart, start_refusal, started, RepresentsStart}
 
 -- ---- the run
 
@@ -54,7 +54,7 @@ started_history files start has allowed = record {
 -- What a folder has to hold to represent it: its journal, its snapshot, and the bodies in the first slot.
 pub started_represents : (start : Start) (image : Image) → IsCleanJournal (started start).log (image.file journal_file)
     → IsSnapshot (image.file init_file) start.bodies start.time
-    → HoldsBodies (image.file (slot_of 0)) (sorted_by by_key start.bodies) → IsBegun start image
+    → HoldsBodies (image.file (slot_of 0)) (sorted_by by_key start.bodies) → RepresentsStart start image
 started_represents start image journal snapshot slot = record {
   journal = journal;
   start = snapshot;

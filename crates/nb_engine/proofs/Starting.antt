@@ -6,6 +6,7 @@ use Rattle.std.proofs.lemmas.List.Elements.{All-contains, All-from_recursion, Co
 use Rattle.nb_model.specs.declared.body.Body.{Body}
 use Rattle.nb_host.specs.declared.host.HostError.{HostError}
 use Rattle.nb_host.specs.declared.host.HostError.TheVariants as host
+use Rattle.nb_host.specs.declared.page_name.PageName.{PageName}
 use Rattle.nb_host.specs.Crashes.{AgreesOutside, ImagesFollow, Stays}
 use Rattle.nb_host.specs.Image.{Image, FileBecomes}
 use Rattle.nb_host.specs.Meaning.{HostModel, Leads, IsDurable, Ran, RanSyncing}
@@ -28,7 +29,7 @@ use Rattle.nb_engine.specs.Frame.{RanSession}
 use Rattle.nb_engine.specs.Reading.{plan_of, IsPlanned}
 use Rattle.nb_engine.specs.Refusal.{of_host}
 use Rattle.nb_engine.specs.Snapshots.{IsBroken}
-use Rattle.nb_engine.specs.Start.{Start, IsStartReady, started, IsBegun, StartLeads, IsReadFile}
+use Rattle.nb_engine.specs.Start.{Start, IsStartReady, started, RepresentsStart, StartLeads}
 use Rattle.nb_engine.proofs.CachedCalls.{well, well_isnt}
 use Rattle.nb_engine.proofs.EachImages.{durable_stays, leads_from_durable}
 use Rattle.nb_engine.proofs.Frames.{session_ran, session_syncing, session_cached, session_then, session_by}
@@ -139,7 +140,7 @@ lays_after {files = files} P begun first second =
 
 -- no run is started still, or it is the one that can be
 abbrev pub IsStill : Image → Image → Type 0
-IsStill old image = IsUnstarted image ⊎ ((start : Start) × IsStartReady old.file start × IsBegun start image)
+IsStill old image = IsUnstarted image ⊎ ((start : Start) × IsStartReady old.file start × RepresentsStart start image)
 
 -- calls that only read
 pub start_stays : {H : Type 0} {m : HostModel H} {old new : H} → Leads m Stays old new
@@ -170,7 +171,7 @@ start_leads {m = m} {files = files} P durable within ready still leads =
 pub committed_still : (start : Start) {log : Log} {old before image : Image} → log ≡ (started start).log
     → IsStartReady old.file start → AgreesOutside start_files old before
     → HoldsBodies (before.file (slot_of 0)) (sorted_by by_key start.bodies) → IsCommitted log before image
-    → IsBegun start image
+    → RepresentsStart start image
 committed_still start {log} {old} {before} {image} is ready since laid committed =
     let snapshot = since.others init_file init_apart in
     let later = committed.others.others init_file init_spared in
@@ -321,9 +322,9 @@ prepared_init made tells =
     ∙ ap (λ (i : Image). i.file init_file) (made.set_out.reads.contents tells)
 
 -- So that it isn't is no cause of a refusal.
-pub never_broken : {H : Type 0} {m : HostModel H} {plan : Plan} {old planned prepared : H} {why : Refusal}
-    → IsMade m plan old planned prepared
-    → IsBroken m IsReadFile (λ bodies. IsPlanned plan bodies ((m.contents prepared).file init_file)) why → IsTrue m.tells → ⊥
+pub never_broken : {H : Type 0} {m : HostModel H} {plan : Plan} {old planned prepared : H} {IsPage : PageName → Type 0}
+    {why : Refusal} → IsMade m plan old planned prepared
+    → IsBroken m IsPage (λ bodies. IsPlanned plan bodies ((m.contents prepared).file init_file)) why → IsTrue m.tells → ⊥
 never_broken {m = m} {old = old} {prepared = prepared} made broken tells =
     let can = made.set_out.ready tells in
     broken.cause tells can.0.bodies
@@ -339,7 +340,7 @@ HoldsPlanned m plan prepared laid = IsTrue m.tells → (bodies : List Body)
 gate_still : {H : Type 0} {m : HostModel H} {plan : Plan} {old planned prepared laid : H} {image : Image}
     → IsLaid m plan old planned prepared laid → HoldsPlanned m plan prepared laid → (tells : IsTrue m.tells)
     → (start : Start) → IsStartReady (m.contents old).file start → plan ≡ plan_of start
-    → IsCommitted (log_of plan) (m.contents laid) image → IsBegun start image
+    → IsCommitted (log_of plan) (m.contents laid) image → RepresentsStart start image
 gate_still {m = m} {old = old} {prepared = prepared} laid holds tells start ready is committed =
     committed_still start (ap log_of is) ready ((laid_lays laid).contents tells).others
     (holds tells start.bodies
@@ -367,7 +368,7 @@ pub gate_opened : {H : Type 0} {m : HostModel H} {plan : Plan} {old planned prep
     → Leads m (FileBecomes journal_file P) laid new
     → (IsTrue m.tells → IsCleanJournal (log_of plan) ((m.contents new).file journal_file)) → IsTrue m.tells
     → (start : Start) × IsStartReady (m.contents old).file start × (plan ≡ plan_of start)
-    × IsBegun start (m.contents new)
+    × RepresentsStart start (m.contents new)
 gate_opened laid holds opens journal tells =
     let can = laid.made.set_out.ready tells in (
       can.0,

@@ -11,12 +11,12 @@ use Rattle.nb_journal.specs.Counters.{Counters}
 use Rattle.nb_tick.specs.Slots.{slot_of, sorted_file, cell_file}
 use Rattle.nb_tick.specs.State.{HoldsState}
 use Rattle.nb_engine.specs.declared.refusal.Refusal.{Refusal}
-use Rattle.nb_engine.specs.Due.{IsDueBy, TellsDue}
+use Rattle.nb_engine.specs.Due.{IsDueByCounters, TellsDue}
 use Rattle.nb_engine.specs.Frame.{EachImage, IsApart, KeepsApart, RanSession}
 use Rattle.nb_engine.specs.Histories.{History, ticked}
 use Rattle.nb_engine.specs.Refusal.{NeedsNoCause}
 use Rattle.nb_engine.specs.Snapshots.{snapshot_files}
-use Rattle.nb_engine.specs.Steps.{IsAt, HasState, IsSpoilt, GoesOn, HasPlayed, IsUpToDate}
+use Rattle.nb_engine.specs.Steps.{IsCheckpoint, HasState, IsSpoilt, GoesOn, HasPlayed, IsUpToDate}
 use Rattle.nb_engine.proofs.DueNow.{tells_due-ticked}
 use Rattle.nb_engine.proofs.EachImages.{each_then}
 use Rattle.nb_engine.proofs.Frames.{session_then}
@@ -86,7 +86,7 @@ module _ {H : Type 0} (m : HostModel H) (journal next : Counters) (h0 h1 h2 : H)
 
   -- ---- where the tick is done
 
-  module _ (due : Bool) (tells_due : IsTrue due ↔ IsDueBy next) (h : History) (at : IsAt m h journal h0) (up : IsUpToDate m h h0) (ticks : (h : History) → IsAt m h journal h0 → IsUpToDate m h h0 → HasPlayed m 1 h (m.contents h0) next h1) where
+  module _ (due : Bool) (tells_due : IsTrue due ↔ IsDueByCounters next) (h : History) (at : IsCheckpoint m h journal h0) (up : IsUpToDate m h h0) (ticks : (h : History) → IsCheckpoint m h journal h0 → IsUpToDate m h h0 → HasPlayed m 1 h (m.contents h0) next h1) where
     played_here : HasPlayed m 1 h (m.contents h0) next h1
     played_here = ticks h at up
 
@@ -94,14 +94,14 @@ module _ {H : Type 0} (m : HostModel H) (journal next : Counters) (h0 h1 h2 : H)
     due_here = tells_due-ticked h played_here.at.represents.journal.journal.lawful played_here.at.answers tells_due
 
     pub step_images : EachImage m (GoesOn 1 h (m.contents h0)) h0 h1
-        → ((h : History) → TellsDue h due → IsAt m h next h1 → EachImage m (GoesOn 0 h (m.contents h1)) h1 h2)
+        → ((h : History) → TellsDue h due → IsCheckpoint m h next h1 → EachImage m (GoesOn 0 h (m.contents h1)) h1 h2)
         → EachImage m (GoesOn 1 h (m.contents h0)) h0 h2
     step_images first finishes =
         each_then m (GoesOn 1 h (m.contents h0)) (GoesOn 0 (ticked h) (m.contents h1)) (GoesOn 1 h (m.contents h0)) first
         (finishes (ticked h) due_here played_here.at) (λ image goes. goes) (λ image goes. goes_then m 1 0 played_here goes)
 
     pub step_done : Leads m (AgreesOutside (snapshot_files next.progress.ticks)) h1 h2
-        → ((h : History) → TellsDue h due → IsAt m h next h1
+        → ((h : History) → TellsDue h due → IsCheckpoint m h next h1
         → HasPlayed m 0 h (m.contents h1) next h2 × IsUpToDate m h h2)
         → HasPlayed m 1 h (m.contents h0) next h2 × IsUpToDate m (ticked h) h2
     step_done leads finished =

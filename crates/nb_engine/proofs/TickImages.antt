@@ -26,13 +26,13 @@ use Rattle.nb_tick.specs.Slots.{slot_of, cell_file}
 use Rattle.nb_tick.specs.State.{HoldsState, IsCellIndexOf}
 use Rattle.nb_engine.specs.declared.refusal.Refusal.{Refusal}
 use Rattle.nb_engine.specs.declared.refusal.Refusal.TheVariants as refusal
-use Rattle.nb_engine.specs.Files.{init_file, IsPagedFile}
+use Rattle.nb_engine.specs.Files.{init_file}
 use Rattle.nb_engine.specs.Frame.{EachImage, IsApart, KeepsApart, RanSession}
 use Rattle.nb_engine.specs.Gates.{CanTick}
 use Rattle.nb_engine.specs.Histories.{Run, state_of, time_of, History, run_of, ticks_of, IsHistory, next_tick, ticked}
 use Rattle.nb_engine.specs.Refusal.{NeedsNoCause}
 use Rattle.nb_engine.specs.Represents.{snap_of, IsOpened, IsComplete, RepresentsRun}
-use Rattle.nb_engine.specs.Steps.{line_of, lines_behind, IsAt, IsSettled, HasState, IsSpoilt, fill_files, IsFilled, HasNext, IsPassed, GoesOn, HasPlayed, IsUpToDate}
+use Rattle.nb_engine.specs.Steps.{tick_line_of, lines_behind, IsCheckpoint, IsFlushed, HasState, IsSpoilt, fill_files, IsFilled, HasNext, IsPassed, GoesOn, HasPlayed, IsUpToDate}
 use Rattle.nb_engine.proofs.EachImages.{from_durable, each_then, durable_said}
 use Rattle.nb_engine.proofs.Filling.{Handed, apart_filled}
 use Rattle.nb_engine.proofs.Frames.{session_syncing, session_spoke, session_then, session_as, session_ended}
@@ -41,8 +41,8 @@ use Rattle.nb_engine.proofs.Paths.{time-now}
 use Rattle.nb_engine.proofs.Played.{said_first, passed_fewer}
 use Rattle.nb_engine.proofs.Representing.{spared, represents_kept, represents_ticked}
 
-lines_one : (run : Run) (k : ℕ) → lines_behind run k 1 ≡ line_of run (suc k)
-lines_one run k = let same : k + 0 ≡ k = omega arith in ap (λ (n : ℕ). line_of run (suc n)) same
+lines_one : (run : Run) (k : ℕ) → lines_behind run k 1 ≡ tick_line_of run (suc k)
+lines_one run k = let same : k + 0 ≡ k = omega arith in ap (λ (n : ℕ). tick_line_of run (suc n)) same
 
 -- ---- the files that a tick fills
 
@@ -163,7 +163,7 @@ ticked_done h before image has = record {
   kept = λ j within _. has.kept j (inl within);
   others = λ j passed. has.kept j (inr (passed_one (ticks_of h) j passed));
   said =
-      said_first (run_of h) (ticks_of h) 0 (line_of (run_of h) (suc (ticks_of h))) (before.said channels.Out)
+      said_first (run_of h) (ticks_of h) 0 (tick_line_of (run_of h) (suc (ticks_of h))) (before.said channels.Out)
       (image.said channels.Out) refl (omega arith) (has.said ∙ sym (append-nil (before.said channels.Out)));
   first = λ opened. absurd (not_opened h image has.shut opened);
 }
@@ -179,7 +179,7 @@ line_represents h now image line stands part =
     spared h.log (run_of h) done now image stands (subst (IsCleanJournal h.log) (sym (same journal_file)) stands.journal)
     (same init_file) (same (slot_of done)) (λ j _ _. same (snap_of j))
 
-pub line_done : (h : History) (before now image : Image) (line : List ℕ) → line ≡ line_of (run_of h) (suc (ticks_of h)) → HasTicked h before now → SaysPart channels.Out line now image
+pub line_done : (h : History) (before now image : Image) (line : List ℕ) → line ≡ tick_line_of (run_of h) (suc (ticks_of h)) → HasTicked h before now → SaysPart channels.Out line now image
     → GoesOn 1 h before image
 line_done h before now image line is has part =
     let n = part.0 in
@@ -218,7 +218,7 @@ HasAppended m journal entry old new = (log : Log) → Answers log journal → Is
     → IsCleanJournal (with_entry log entry) ((m.contents new).file journal_file)
 
 module _ {H : Type 0} (m : HostModel H) (journal : Counters) (h0 h1 : H) (leads : Leads m (AgreesOutside (fill_files journal.progress.ticks)) h0 h1) where
-  module _ (h : History) (at : IsAt m h journal h0) where
+  module _ (h : History) (at : IsCheckpoint m h journal h0) where
     abbrev before : Image
     before = m.contents h0
 
@@ -303,7 +303,7 @@ module _ {H : Type 0} (m : HostModel H) (journal : Counters) (h0 h1 : H) (leads 
             ∙ ap (λ (k : ℕ). time_of (run_of h) k) (ticks-ticked h)
 
         module _ (time : ℕ) (same_time : time ≡ next.progress.time) (line : List ℕ) (spelled : line ≡ tick_line (ticks + 1) time gone) where
-          line_is : line ≡ line_of (run_of h) (suc (ticks_of h))
+          line_is : line ≡ tick_line_of (run_of h) (suc (ticks_of h))
           line_is =
               let k = suc (ticks_of h) in
               spelled ∙ ap (λ (n : ℕ). tick_line n time gone) number_is ∙ ap (λ (n : ℕ). tick_line k n gone) (same_time ∙ time_is)
@@ -365,31 +365,31 @@ state_after journal next gone ticks old new ticks_is next_is same has =
     (list, subst (λ (j : Counters). HasState j list new) (sym next_is) state)
 
 -- fewer bodies out than the journal tells
-pub fewer_spoilt : {H : Type 0} (m : HostModel H) (journal : Counters) (h0 h1 : H) (gone told : ℕ) (page : PageName)
-    → IsPagedFile page.file → told ≡ journal.progress.gone → gone < told
+pub fewer_spoilt : {H : Type 0} (m : HostModel H) (journal : Counters) (h0 h1 : H) (gone : ℕ) (why : Refusal)
+    → (gone < journal.progress.gone) × (why ≡ refusal.Damaged (record { file = slot_of journal.progress.ticks; page = 0 }))
     → (IsTrue m.tells → (bodies : List Body) → HasState journal bodies (m.contents h0).file
     → HasNext journal gone (m.contents h1).file)
-    → NeedsNoCause (refusal.Damaged page) ⊎ IsSpoilt m journal h0 (refusal.Damaged page)
-fewer_spoilt m journal h0 h1 gone told page paged told_is fewer next =
+    → NeedsNoCause why ⊎ IsSpoilt m journal h0 why
+fewer_spoilt m journal h0 h1 gone why fewer next =
     inr (record {
-      page = page;
-      shown = refl;
-      file = paged;
-      cause = λ tells bodies has. omega (arith, (next tells bodies has).no_fewer, told_is, fewer);
+      page = record { file = slot_of journal.progress.ticks; page = 0 };
+      shown = fewer.1;
+      file = (omega arith, omega arith);
+      cause = λ tells bodies has. omega (arith, (next tells bodies has).no_fewer, fewer.0);
     })
 
 -- ---- the cache
 
 -- The entry and the line spare the files of a cache.
 pub settled_entry : {H : Type 0} {m : HostModel H} {P : List ℕ → List ℕ → Type 0} (cache : CacheValue) {old new : H}
-    → Leads m (FileBecomes journal_file P) old new → IsSettled m cache old → IsSettled m cache new
+    → Leads m (FileBecomes journal_file P) old new → IsFlushed m cache old → IsFlushed m cache new
 settled_entry cache leads settled = record {
   in_step = step_file cache (λ cached. omega (arith, cached.least)) leads settled.in_step;
   unwritten = settled.unwritten;
 }
 
 pub settled_line : {H : Type 0} {m : HostModel H} {bytes : List ℕ} (cache : CacheValue) {old new : H}
-    → Leads m (SaysPart channels.Out bytes) old new → IsSettled m cache old → IsSettled m cache new
+    → Leads m (SaysPart channels.Out bytes) old new → IsFlushed m cache old → IsFlushed m cache new
 settled_line cache leads settled = record {
   in_step = step_said cache leads settled.in_step;
   unwritten = settled.unwritten;

@@ -4,7 +4,7 @@ use Rattle.std.proofs.Math.Seq.{get_or-append_seam}
 use Rattle.std.proofs.lemmas.List.{get_or-append-add}
 use Rattle.nb_format.specs.Lines.{tick_line}
 use Rattle.nb_format.specs.LineEnds.{IsOneLine}
-use Rattle.nb_engine.specs.Acknowledged.{EndsLine, Acknowledges, IsToldUpTo}
+use Rattle.nb_engine.specs.Acknowledged.{EndsLine, Acknowledges, IsAcknowledgedUpTo}
 use Rattle.nb_engine.proofs.TickLines.{IsTickLine, tick_line-is, split_either, same_line, none_behind_feed, none_cut}
 
 -- what is known of the lines of ticks
@@ -22,7 +22,7 @@ acknowledging lines said j told =
     tick_line-is j told.time told.gone told.tick told.time_fits told.gone_fits
     (lines j told.time told.gone (omega (arith, told.tick)) (omega (arith, told.time_fits)) (omega (arith, told.gone_fits)))
 
-pub none_told : TicksAreLines → (k : ℕ) → IsToldUpTo k []
+pub none_told : TicksAreLines → (k : ℕ) → IsAcknowledgedUpTo k []
 none_told lines k j told =
     let line = tick_line j told.time told.gone in
     let is = acknowledging lines [] j told in
@@ -34,7 +34,7 @@ none_told lines k j told =
       is.long,
     ))
 
-pub told_more : (i k : ℕ) (said : List ℕ) → i ≤ k → IsToldUpTo i said → IsToldUpTo k said
+pub told_more : (i k : ℕ) (said : List ℕ) → i ≤ k → IsAcknowledgedUpTo i said → IsAcknowledgedUpTo k said
 told_more i k said less up j told = omega (arith, less, up j told)
 
 -- the last byte of a text that ends a line, of which the last bytes aren't none
@@ -102,7 +102,7 @@ told_by lines line said n j is told =
     ]
 
 pub told_line : TicksAreLines → EachTellsOne → (k time gone n : ℕ) (said : List ℕ) → k < 2 ^ 64 → time < 2 ^ 64 → gone < 2 ^ 64
-    → IsToldUpTo k said → IsToldUpTo k (said ++ take n (tick_line k time gone))
+    → IsAcknowledgedUpTo k said → IsAcknowledgedUpTo k (said ++ take n (tick_line k time gone))
 told_line lines one k time gone n said few_k few_time few_gone up j told =
     let line = tick_line k time gone in
     let is = tick_line-is k time gone few_k few_time few_gone (lines k time gone (omega arith) (omega arith) (omega arith)) in

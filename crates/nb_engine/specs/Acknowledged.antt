@@ -19,8 +19,8 @@ pub record Acknowledges (said : List ℕ) (k : ℕ) : Type 0 where
   pub there : said ≡ before ++ (tick_line k time gone ++ behind)
 
 -- no tick beyond this one was acknowledged
-abbrev pub IsToldUpTo : ℕ → List ℕ → Type 0
-IsToldUpTo k said = (j : ℕ) → Acknowledges said j → j ≤ k
+abbrev pub IsAcknowledgedUpTo : ℕ → List ℕ → Type 0
+IsAcknowledgedUpTo k said = (j : ℕ) → Acknowledges said j → j ≤ k
 
 -- a byte that stands in no line of a tick
 pub record IsForeignByte (byte : ℕ) : Type 0 where

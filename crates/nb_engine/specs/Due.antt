@@ -3,11 +3,11 @@ use Rattle.std.specs.Prelude.{◌≡◌, ◌⊎◌, ◌%◌, ◌≤◌, IsTrue, 
 use Rattle.nb_model.specs.Legs.{IsSnapshotDue}
 use Rattle.nb_journal.specs.Counters.{Counters}
 use Rattle.nb_journal.specs.Form.{Log, progress_of}
-use Rattle.nb_engine.specs.Histories.{IsDue, History, legs_in, run_of, ticks_of}
+use Rattle.nb_engine.specs.Histories.{IsDueAfter, History, legs_in, run_of, ticks_of}
 
 -- After a tick: at every so many of them, and where it ended its leg.
-abbrev pub IsDueBy : Counters → Type 0
-IsDueBy journal =
+abbrev pub IsDueByCounters : Counters → Type 0
+IsDueByCounters journal =
     (1 ≤ journal.progress.ticks)
     × ((journal.progress.ticks % journal.params.every ≡ 0) ⊎ (journal.progress.time ≡ journal.progress.target))
 
@@ -17,4 +17,4 @@ IsLastDue log = IsSnapshotDue log.params log.begin_time (legs_in log.entries) (p
 
 -- The answer says whether a snapshot is due after the last tick of this history.
 abbrev pub TellsDue : History → Bool → Type 0
-TellsDue h due = IsTrue due ↔ IsDue (run_of h) (ticks_of h)
+TellsDue h due = IsTrue due ↔ IsDueAfter (run_of h) (ticks_of h)

@@ -24,8 +24,8 @@ abbrev pub time_of : Run → ℕ → ℕ
 time_of run k = time_after run.begin run.legs k
 
 -- a snapshot is due after tick k
-abbrev pub IsDue : Run → ℕ → Type 0
-IsDue run k = IsSnapshotDue run.params run.begin run.legs k
+abbrev pub IsDueAfter : Run → ℕ → Type 0
+IsDueAfter run k = IsSnapshotDue run.params run.begin run.legs k
 
 -- how many ticks a run has
 abbrev pub length_of : Run → ℕ
@@ -57,7 +57,7 @@ abbrev pub ticks_of : History → ℕ
 ticks_of h = (progress_of h.log).ticks
 
 -- A tick of the journal is one of those that are done, with the number of bodies that were out after it.
-pub record IsToldTick (h : History) (number gone : ℕ) : Type 0 where
+pub record IsRecordedTick (h : History) (number gone : ℕ) : Type 0 where
   pub done : number ≤ ticks_of h
   pub gone_is : gone ≡ escaped_count (state_of (run_of h) number)
 
@@ -67,7 +67,7 @@ pub record IsHistory (h : History) : Type 0 where
   pub run : IsRun (run_of h)
   pub count : h.log.count ≡ length h.bodies
   pub gone : h.log.begin_gone ≡ escaped_count h.bodies
-  pub told : (number gone : ℕ) → Contains h.log.entries (Tick number gone) → IsToldTick h number gone
+  pub told : (number gone : ℕ) → Contains h.log.entries (Tick number gone) → IsRecordedTick h number gone
 
 -- ---- one entry more
 

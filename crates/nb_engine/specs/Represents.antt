@@ -8,9 +8,9 @@ use Rattle.nb_journal.specs.Form.{Log, IsFresh, IsCleanJournal}
 use Rattle.nb_journal.specs.Offsets.{journal_file}
 use Rattle.nb_record.specs.Order.{by_key, sorted_by, HoldsBodies, HoldsKickedBodies}
 use Rattle.nb_tick.specs.Slots.{slot_of}
-use Rattle.nb_engine.specs.Acknowledged.{IsToldUpTo}
+use Rattle.nb_engine.specs.Acknowledged.{IsAcknowledgedUpTo}
 use Rattle.nb_engine.specs.Files.{init_file}
-use Rattle.nb_engine.specs.Histories.{Run, state_of, time_of, IsDue, History, run_of, ticks_of, IsHistory}
+use Rattle.nb_engine.specs.Histories.{Run, state_of, time_of, IsDueAfter, History, run_of, ticks_of, IsHistory}
 
 -- the file of the snapshot that is written after tick k
 abbrev pub snap_of : ℕ → ℕ
@@ -23,7 +23,7 @@ pub record IsOpened (file : List ℕ) : Type 0 where
 
 -- the file is the snapshot of a run after tick k, where one is due
 pub record IsSnapshotOf (run : Run) (k : ℕ) (file : List ℕ) : Type 0 where
-  pub due : IsDue run k
+  pub due : IsDueAfter run k
   pub bytes : IsSnapshot file (state_of run k) (time_of run k)
 
 -- The image represents the run up to tick k, and its journal is this one. The slot of tick k holds the list after it, in Morton
@@ -36,7 +36,7 @@ pub record Represents (log : Log) (run : Run) (k : ℕ) (image : Image) : Type 0
   pub slot : HoldsBodies (image.file (slot_of k)) (sorted_by by_key (state_of run k))
   pub kicks : k ≢ 0 → HoldsKickedBodies (image.file (slot_of k)) (half_kick run.params (state_of run k))
       (sorted_by by_key (state_of run k))
-  pub finished : (j : ℕ) → IsDue run j → j < k → IsFinishedSnapshot (length run.bodies) (image.file (snap_of j))
+  pub finished : (j : ℕ) → IsDueAfter run j → j < k → IsFinishedSnapshot (length run.bodies) (image.file (snap_of j))
   pub right : (j : ℕ) → 1 ≤ j → j ≤ k → IsOpened (image.file (snap_of j)) → IsSnapshotOf run j (image.file (snap_of j))
 
 -- It represents the run of a history, up to the last tick that is done.
@@ -46,15 +46,15 @@ RepresentsRun h image = Represents h.log (run_of h) (ticks_of h) image
 -- It does, and no tick beyond was acknowledged.
 pub record RepresentsHistory (h : History) (image : Image) : Type 0 where
   pub run : RepresentsRun h image
-  pub told : IsToldUpTo (ticks_of h) (image.said channels.Out)
+  pub told : IsAcknowledgedUpTo (ticks_of h) (image.said channels.Out)
 
 -- Each snapshot that is due up to tick k is finished: that of tick k too, before a gate opens.
 abbrev pub IsComplete : Run → ℕ → Image → Type 0
-IsComplete run k image = (j : ℕ) → IsDue run j → j ≤ k → IsFinishedSnapshot (length run.bodies) (image.file (snap_of j))
+IsComplete run k image = (j : ℕ) → IsDueAfter run j → j ≤ k → IsFinishedSnapshot (length run.bodies) (image.file (snap_of j))
 
 -- A sound image: no run is started, and no tick from 1 on was acknowledged, or it represents a run up to a tick, and none
 -- beyond was acknowledged.
 abbrev pub IsSoundImage : Image → Type 0
 IsSoundImage image =
-    (IsFresh (image.file journal_file) × IsToldUpTo 0 (image.said channels.Out))
+    (IsFresh (image.file journal_file) × IsAcknowledgedUpTo 0 (image.said channels.Out))
     ⊎ ((h : History) × IsHistory h × RepresentsHistory h image)

@@ -1,5 +1,5 @@
 -- What the writing of a run's snapshot leaves.
-use Rattle.std.specs.Prelude.{◌≡◌, ℕ, List, [], ◌∷◌, IsTrue, length, map}
+use Rattle.std.specs.Prelude.{◌≡◌, ◌⊎◌, ℕ, suc, ◌<◌, ◌≤◌, List, [], ◌∷◌, IsTrue, length, map}
 use Rattle.std.specs.List.Sorted.{IsStrictlyIncreasing}
 use Rattle.nb_model.specs.declared.body.Body.{Body}
 use Rattle.nb_host.specs.declared.page_name.PageName.{PageName}
@@ -8,8 +8,11 @@ use Rattle.nb_host.specs.Image.{Image}
 use Rattle.nb_host.specs.Meaning.{HostModel}
 use Rattle.nb_format.specs.Snapshot.{IsFinishedSnapshot}
 use Rattle.nb_journal.specs.Form.{Log, progress_of}
-use Rattle.nb_record.specs.Order.{by_key, sorted_by, HoldsBodies}
-use Rattle.nb_tick.specs.Slots.{sorted_file}
+use Rattle.nb_cache.specs.View.{CacheValue, seen}
+use Rattle.nb_record.specs.Order.{record_of, by_key, sorted_by, HoldsBodies}
+use Rattle.nb_record.specs.Records.{body_of}
+use Rattle.nb_order.specs.Files.{page_of_body, HasBody}
+use Rattle.nb_tick.specs.Slots.{slot_of, sorted_file}
 use Rattle.nb_engine.specs.declared.refusal.Refusal.{Refusal}
 use Rattle.nb_engine.specs.declared.refusal.Refusal.TheVariants as refusal
 use Rattle.nb_engine.specs.Due.{IsLastDue}
@@ -38,10 +41,29 @@ pub record HoldsByKeys (count : ℕ) (bodies : List Body) (file : List ℕ) : Ty
   pub count_is : length bodies ≡ count
   pub rises : IsStrictlyIncreasing (map (λ b. b.id) bodies)
 
--- A page isn't what it has to be: it is one of such a file, and over a host that tells there are no bodies that are held as they
--- have to be.
-pub record IsBroken {H : Type 0} (m : HostModel H) (IsFile : ℕ → Type 0) (Holds : List Body → Type 0) (why : Refusal) : Type 0 where
+-- The bodies of a file don't go on, in the order of their ids, with body `index`: it isn't there, or its id isn't above that of the
+-- one before.
+abbrev pub EndsBefore : ℕ → List ℕ → Type 0
+EndsBefore index file =
+    (HasBody file index → ⊥)
+    ⊎ ((before : ℕ) × (index ≡ suc before) × ((body_of (record_of file index)).id ≤ (body_of (record_of file before)).id))
+
+-- The page of the sorted file on which body `index` stands, one of so many with which, over a host that tells, its bodies don't go
+-- on.
+pub record IsEnd {H : Type 0} (m : HostModel H) (count : ℕ) (cache : CacheValue) (host : H) (page : PageName) : Type 0 where
+  pub index : ℕ
+  pub below : index < count
+  pub page_is : page ≡ page_of_body sorted_file index
+  pub ends : IsTrue m.tells → EndsBefore index (seen m cache host sorted_file)
+
+-- a page from which the snapshot after tick k is written: of that tick's slot, or of the file with its bodies in the order of ids
+abbrev pub IsSnapshotPage : ℕ → PageName → Type 0
+IsSnapshotPage k page = (page.file ≡ slot_of k) ⊎ (page.file ≡ sorted_file)
+
+-- A page isn't what it has to be: it is one of these, and over a host that tells there are no bodies that are held as they have
+-- to be.
+pub record IsBroken {H : Type 0} (m : HostModel H) (IsPage : PageName → Type 0) (Holds : List Body → Type 0) (why : Refusal) : Type 0 where
   pub page : PageName
   pub shown : why ≡ refusal.Damaged page
-  pub file : IsFile page.file
+  pub place : IsPage page
   pub cause : IsTrue m.tells → (bodies : List Body) → Holds bodies → ⊥

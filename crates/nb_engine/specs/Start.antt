@@ -1,7 +1,9 @@
 -- What a run begins with, and when none can begin.
-use Rattle.std.specs.Prelude.{◌≡◌, ◌⊎◌, ⊤, ℕ, ◌*◌, nat_le, if◌then◌else◌, Bool, IsTrue, Option, None, Some, Ok, Err, List, [], ◌∷◌, length}
+use Rattle.std.specs.Prelude.{◌≡◌, ◌⊎◌, ⊤, ℕ, ◌*◌, ◌<◌, nat_le, if◌then◌else◌, Bool, IsTrue, Option, None, Some, Ok, Err, List, [], ◌∷◌, length}
 use Rattle.nb_host.specs.Crashes.{AgreesOutside}
+use Rattle.nb_host.specs.declared.page_name.PageName.{PageName}
 use Rattle.nb_host.specs.Image.{Image}
+use Rattle.nb_host.specs.Meaning.{HostModel}
 use Rattle.nb_model.specs.declared.body.Body.{Body}
 use Rattle.nb_model.specs.declared.params.Params.{Params}
 use Rattle.nb_model.specs.Leapfrog.{escaped_count}
@@ -9,9 +11,11 @@ use Rattle.nb_model.specs.Limits.{gm_limit}
 use Rattle.nb_model.specs.Octree.{total_mass}
 use Rattle.nb_format.specs.declared.params_error.ParamsError.{ParamsError}
 use Rattle.nb_format.specs.declared.snap_error.SnapError.{SnapError}
+use Rattle.nb_format.specs.declared.snap_reader.SnapReader.{SnapReader}
 use Rattle.nb_format.specs.ParamsText.{params_of, NamesParameter}
+use Rattle.nb_format.specs.Reader.{count_of, HasRead}
 use Rattle.nb_format.specs.Snapshot.{IsSnapshot}
-use Rattle.nb_format.specs.SnapshotRefusal.{snapshot_refusal, IsBySnapshot}
+use Rattle.nb_format.specs.SnapshotRefusal.{snapshot_refusal, IsBySnapshot, IsOfRecord}
 use Rattle.nb_journal.specs.Counters.{new_log}
 use Rattle.nb_journal.specs.Form.{Log, IsFresh, IsJournal, IsDamagedAt}
 use Rattle.nb_journal.specs.Offsets.{journal_file}
@@ -20,8 +24,10 @@ use Rattle.nb_engine.specs.declared.refusal.Refusal.TheVariants as refusal
 use Rattle.nb_engine.specs.declared.run_start.Begun.{Begun}
 use Rattle.nb_engine.specs.Histories.{History, run_of}
 use Rattle.nb_engine.specs.Refusal.{damaged_journal}
-use Rattle.nb_engine.specs.Files.{params_file, init_file, IsPagedFile}
+use Rattle.nb_engine.specs.Files.{params_file, init_file}
 use Rattle.nb_engine.specs.Represents.{Represents}
+use Rattle.nb_cache.specs.View.{CacheValue, seen}
+use Rattle.nb_order.specs.Files.{page_of_body}
 use Rattle.nb_tick.specs.Slots.{slot_of, drifted_file}
 
 -- what a run begins with: its parameters, and the bodies at a time
@@ -80,8 +86,8 @@ started start = record {
 }
 
 -- The image represents the run that starts so, without a tick.
-abbrev pub IsBegun : Start → Image → Type 0
-IsBegun start image = Represents (started start).log (run_of (started start)) 0 image
+abbrev pub RepresentsStart : Start → Image → Type 0
+RepresentsStart start image = Represents (started start).log (run_of (started start)) 0 image
 
 -- The answer tells how many bodies there are, and the time.
 pub record TellsStart (start : Start) (begun : Begun) : Type 0 where
@@ -94,11 +100,41 @@ pub record StartLeads (honest : Bool) (old new : Image) : Type 0 where
   pub others : AgreesOutside (journal_file ∷ slot_of 0 ∷ drifted_file ∷ []) old new
   pub idle : ((start : Start) → IsStartReady old.file start → ⊥) → new ≡ old
   pub begins : IsTrue honest → IsFresh (old.file journal_file) → IsFresh (new.file journal_file)
-      ⊎ ((start : Start) × IsStartReady old.file start × IsBegun start new)
+      ⊎ ((start : Start) × IsStartReady old.file start × RepresentsStart start new)
 
--- a file from which `start` reads the bodies that it lays down: the initial snapshot, and then a file of pages
-abbrev pub IsReadFile : ℕ → Type 0
-IsReadFile number = (number ≡ init_file) ⊎ IsPagedFile number
+-- ---- what the second reading of the initial snapshot names as damaged
+
+-- a place in the initial snapshot: the number of a body, counted from 0, or 0 for the header
+abbrev pub place_of_body : ℕ → PageName
+place_of_body index = record { file = init_file; page = index }
+
+-- The first of what the bytes refuse is the record with this index.
+pub record IsRefusedAt (index : ℕ) (file : List ℕ) : Type 0 where
+  pub error : SnapError
+  pub first : snapshot_refusal file ≡ Some error
+  pub of_record : IsOfRecord index error
+
+-- The bodies of a reader aren't copied on, from body `index`: the snapshot's record is refused, or the copy's page isn't what it has
+-- to be, which over a host that tells is never so of a copy that was begun empty.
+pub record IsCopyEnd {H : Type 0} (m : HostModel H) (reader : SnapReader) (cache : CacheValue) (host : H) (page : PageName) : Type 0 where
+  pub index : ℕ
+  pub below : index < count_of reader
+  pub place : ((page ≡ place_of_body index) × (IsTrue m.tells → HasRead reader ((m.contents host).file init_file) []
+      → IsRefusedAt index ((m.contents host).file init_file)))
+      ⊎ ((page ≡ page_of_body drifted_file index) × (IsTrue m.tells → seen m cache host drifted_file ≡ [] → ⊥))
+
+-- a place that the reading of so many bodies names: that of the header, which stands for all of them too, or that of one of them, in
+-- the snapshot or in the copy
+abbrev pub IsReadPlace : ℕ → PageName → Type 0
+IsReadPlace count page =
+    (page ≡ place_of_body 0)
+    ⊎ ((index : ℕ) × (index < count) × ((page ≡ place_of_body index) ⊎ (page ≡ page_of_body drifted_file index)))
+
+-- and one that the laying down of them names: such a place, or a page of the copy or of the first slot
+abbrev pub IsLaidPlace : ℕ → PageName → Type 0
+IsLaidPlace count page = IsReadPlace count page ⊎ (page.file ≡ drifted_file) ⊎ (page.file ≡ slot_of 0)
+
+-- ---- refusals
 
 -- a refusal of the parameters, whatever the host tells
 abbrev pub IsOfParameters : Refusal → Type 0

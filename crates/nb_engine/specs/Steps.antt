@@ -24,22 +24,22 @@ use Rattle.nb_engine.specs.Represents.{snap_of, IsOpened, IsComplete, Represents
 -- ---- the lines of ticks
 
 -- the line of a run's tick k
-abbrev pub line_of : Run → ℕ → List ℕ
-line_of run k = tick_line k (time_of run k) (escaped_count (state_of run k))
+abbrev pub tick_line_of : Run → ℕ → List ℕ
+tick_line_of run k = tick_line k (time_of run k) (escaped_count (state_of run k))
 
 -- those of the n ticks behind tick k
 abbrev pub lines_behind : Run → ℕ → ℕ → List ℕ
 lines_behind run k zero = []
-lines_behind run k (suc n) = lines_behind run k n ++ line_of run (suc (k + n))
+lines_behind run k (suc n) = lines_behind run k n ++ tick_line_of run (suc (k + n))
 
 -- The bytes said on a channel are those of before and a front of this text.
-abbrev pub SaidFrontOf : List ℕ → List ℕ → List ℕ → Type 0
-SaidFrontOf text old new = (n : ℕ) × (n ≤ length text) × (new ≡ old ++ take n text)
+abbrev pub SaidPrefixOf : List ℕ → List ℕ → List ℕ → Type 0
+SaidPrefixOf text old new = (n : ℕ) × (n ≤ length text) × (new ≡ old ++ take n text)
 
 -- What was said since tick k, when n ticks are done behind it: the lines of all but the last, and a front of the last one's.
 abbrev pub SaidLinesOf : Run → ℕ → ℕ → List ℕ → List ℕ → Type 0
 SaidLinesOf run k zero old new = new ≡ old
-SaidLinesOf run k (suc n) old new = SaidFrontOf (line_of run (suc (k + n))) (old ++ lines_behind run k n) new
+SaidLinesOf run k (suc n) old new = SaidPrefixOf (tick_line_of run (suc (k + n))) (old ++ lines_behind run k n) new
 
 -- ---- before and behind a step
 
@@ -49,7 +49,7 @@ played zero h = h
 played (suc n) h = ticked (played n h)
 
 -- Of a host that tells: what reads is durable and represents this history, and the journal in hand tells it.
-pub record IsAt {H : Type 0} (m : HostModel H) (h : History) (journal : Counters) (host : H) : Type 0 where
+pub record IsCheckpoint {H : Type 0} (m : HostModel H) (h : History) (journal : Counters) (host : H) : Type 0 where
   pub tells : IsTrue m.tells
   pub durable : IsDurable m host
   pub is : IsHistory h
@@ -57,7 +57,7 @@ pub record IsAt {H : Type 0} (m : HostModel H) (h : History) (journal : Counters
   pub represents : RepresentsRun h (m.contents host)
 
 -- The cache is in step with its host, and of its files only the scratch file of a snapshot may be unwritten.
-pub record IsSettled {H : Type 0} (m : HostModel H) (cache : CacheValue) (host : H) : Type 0 where
+pub record IsFlushed {H : Type 0} (m : HostModel H) (cache : CacheValue) (host : H) : Type 0 where
   pub in_step : IsInStep m cache host
   pub unwritten : (file : ℕ) → Contains cache.unwritten file → file ≡ sorted_file
 
@@ -125,7 +125,7 @@ pub record GoesOn (most : ℕ) (h : History) (before image : Image) : Type 0 whe
 
 -- So many ticks are done, and told: all of that is durable, and the journal in hand tells it.
 pub record HasPlayed {H : Type 0} (m : HostModel H) (n : ℕ) (h : History) (before : Image) (journal : Counters) (host : H) : Type 0 where
-  pub at : IsAt m (played n h) journal host
+  pub at : IsCheckpoint m (played n h) journal host
   pub kept : (j : ℕ) → j ≤ ticks_of h → IsFinishedSnapshot (length h.bodies) (before.file (snap_of j))
       → (m.contents host).file (snap_of j) ≡ before.file (snap_of j)
   pub others : (j : ℕ) → IsPassed (ticks_of h) n j → (m.contents host).file (snap_of j) ≡ before.file (snap_of j)

@@ -7,7 +7,7 @@ ghost use Rattle.nb_journal.specs.Counters.{Answers};
 ghost use Rattle.nb_journal.specs.Finding.{IsFound};
 ghost use Rattle.nb_journal.specs.Form.{IsJournal};
 ghost use Rattle.nb_journal.specs.Offsets.{journal_file};
-ghost use Rattle.nb_engine.specs.Due.{IsDueBy, TellsDue};
+ghost use Rattle.nb_engine.specs.Due.{IsDueByCounters, TellsDue};
 ghost use Rattle.nb_engine.specs.Histories.{History};
 ghost use Rattle.nb_engine.specs.Refusal.{NeedsNoCause};
 ghost use Rattle.nb_engine.specs.Shown.{IsOfShow};
@@ -18,7 +18,7 @@ use nb_journal::{Entry, Journal};
 
 /// Whether a snapshot is due after a tick that is the journal's last entry.
 pub(crate) fn is_due(journal: &Journal) -> bool
-    ensures { IsTrue result ↔ IsDueBy journal.now }
+    ensures { IsTrue result ↔ IsDueByCounters journal.now }
 {
     let every = journal.params().every;
     let ticks = journal.ticks();

@@ -11,7 +11,7 @@ ghost use Rattle.nb_format.specs.Snapshot.{IsFinishedSnapshot};
 ghost use Rattle.nb_journal.specs.Entries.{IsNextLeg};
 ghost use Rattle.nb_journal.specs.Form.{IsLawful, IsCleanJournal, progress_of};
 ghost use Rattle.nb_journal.specs.Offsets.{journal_file};
-ghost use Rattle.nb_engine.specs.Acknowledged.{IsToldUpTo, IsOtherText};
+ghost use Rattle.nb_engine.specs.Acknowledged.{IsAcknowledgedUpTo, IsOtherText};
 ghost use Rattle.nb_engine.specs.Histories.{Run, state_of, time_of, length_of, IsRun, History, run_of, ticks_of, IsHistory, ticked, legged};
 ghost use Rattle.nb_tick.specs.Slots.{slot_of};
 ghost use Rattle.nb_engine.specs.Files.{init_file};
@@ -63,12 +63,12 @@ pub fn law_times()
 /// acknowledges no tick beyond k, behind whatever was said before. What is said of a text whose lines each
 /// have a byte that stands in no line of a tick acknowledges none.
 pub fn law_acknowledged()
-    ensures none { (k : ℕ) → IsToldUpTo k [] }
+    ensures none { (k : ℕ) → IsAcknowledgedUpTo k [] }
     ensures line { (k time gone n : ℕ) (said : List ℕ) → k < 2 ^ 64 → time < 2 ^ 64 → gone < 2 ^ 64
-        → IsToldUpTo k said → IsToldUpTo k (said ++ take n (tick_line k time gone)) }
+        → IsAcknowledgedUpTo k said → IsAcknowledgedUpTo k (said ++ take n (tick_line k time gone)) }
     ensures other { (k n : ℕ) (said text : List ℕ) → IsOtherText text
-        → IsToldUpTo k said → IsToldUpTo k (said ++ take n text) }
-    ensures more { (i k : ℕ) (said : List ℕ) → i ≤ k → IsToldUpTo i said → IsToldUpTo k said }
+        → IsAcknowledgedUpTo k said → IsAcknowledgedUpTo k (said ++ take n text) }
+    ensures more { (i k : ℕ) (said : List ℕ) → i ≤ k → IsAcknowledgedUpTo i said → IsAcknowledgedUpTo k said }
 {
     law_one_tick();
     law_said_lines();

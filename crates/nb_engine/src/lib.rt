@@ -1,8 +1,11 @@
 //! Sessions: what a folder stands for, and what a session does with it.
 //!
-//! In `specs/` `Histories` says what a run is and what its journal tells, `Represents` what the files of a
-//! folder stand for, `Acknowledged` which ticks were told, and `Gates` what has to stand before a gate of the
-//! journal opens. `laws` has the laws of runs, and `show` reads what a folder's journal tells.
+//! `run_start` begins a run from what `params_file` and `init_file` read. `going` leads one to a time: `opening`
+//! finds its journal, `ticking` takes the ticks with what `workspace` holds, and `snapshot` writes a snapshot
+//! where `due` says so. `shown` has what a journal tells, `files` the numbers of a run's files, `refusal` why a
+//! session is refused, and `laws` the laws of runs. In `specs/` `Histories` says what a run is, `Represents`
+//! what a folder's files stand for, `Acknowledged` which ticks were told, `Gates` what has to stand before a
+//! gate of the journal opens, and `Start`, `Sessions` and `Shown` what the sessions do.
 #![tactic(auto)]
 
 mod due;

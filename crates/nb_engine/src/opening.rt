@@ -13,7 +13,7 @@ ghost use Rattle.nb_engine.specs.Represents.{RepresentsRun};
 ghost use Rattle.nb_engine.specs.Sessions.{IsPace, OpenLeads, IsSlotSpoilt};
 ghost use Rattle.nb_engine.specs.Shown.{IsNotShown, IsOfShow};
 ghost use Rattle.nb_engine.specs.Snapshots.{snapshot_files};
-ghost use Rattle.nb_engine.specs.Steps.{IsSettled, IsUpToDate, GoesOn, HasPlayed};
+ghost use Rattle.nb_engine.specs.Steps.{IsFlushed, IsUpToDate, GoesOn, HasPlayed};
 
 use crate::due::is_last_due;
 use crate::going::Pace;
@@ -36,7 +36,9 @@ pub(crate) struct Session {
 pub(crate) fn open<H: Host>(alloc: Global, host: &mut H, pace: Pace) -> Result<Session, Refusal>
     requires pace { IsPace pace }
     requires durable { IsDurable H.meaning host.old }
-    ensures settled { IfOk result (λ session. IsSettled H.meaning session.work.cache host.new) }
+    ensures settled { IfOk result (λ session. IsFlushed H.meaning session.work.cache host.new) }
+    ensures pages { IfOk result (λ session. session.work.cache.pages ≡ pace.pages) }
+    ensures walks { IfOk result (λ session. session.work.pool.room ≡ pace.walks) }
     ensures durable { OnOk result (IsDurable H.meaning host.new) }
     ensures found { IfOk result (λ session. IsTrue H.meaning.tells
         → IsFound session.journal ((H.meaning.contents host.old).file journal_file)) }

@@ -4,7 +4,7 @@ ghost use Rattle.std.specs.Prelude.{◌≡◌, ◌⊎◌, ◌^◌, ◌≤◌, �
 ghost use Rattle.nb_model.specs.declared.body.Body.{Body as Bodies};
 ghost use Rattle.nb_host.specs.Crashes.{Stays};
 ghost use Rattle.nb_host.specs.Meaning.{IsDurable, Ran};
-ghost use Rattle.nb_format.specs.Reader.{IsAtStart, HasRead, time_of};
+ghost use Rattle.nb_format.specs.Reader.{IsAtStart, HasRead, count_of, time_of};
 ghost use Rattle.nb_format.specs.Snapshot.{IsSnapshot};
 ghost use Rattle.nb_journal.specs.Form.{IsFresh};
 ghost use Rattle.nb_journal.specs.Offsets.{journal_file};
@@ -19,12 +19,13 @@ ghost use Rattle.nb_engine.specs.Reading.{census_of, IsCensus, plan_of, IsPlan, 
 ghost use Rattle.nb_engine.specs.Refusal.{NeedsNoCause, of_second_reading};
 ghost use Rattle.nb_engine.specs.declared.refusal.Refusal.TheVariants as refusals;
 ghost use Rattle.nb_engine.specs.Snapshots.{IsBroken};
-ghost use Rattle.nb_engine.specs.Start.{Start, IsStartReady, IsStartRefused, IsBegun, TellsStart, StartLeads, IsReadFile, IsOfStart};
+ghost use Rattle.nb_engine.specs.Start.{Start, IsStartReady, IsStartRefused, RepresentsStart, TellsStart, StartLeads, place_of_body, IsCopyEnd, IsReadPlace, IsLaidPlace, IsOfStart};
 
 use crate::files::{INIT_FILE, READ_FILE};
 use crate::init_file::{Census, survey};
 use crate::params_file::parameters;
 use crate::refusal::Refusal;
+use crate::workspace::cache_of;
 use nb_cache::Cache;
 use nb_format::{SnapError, SnapReader};
 use nb_host::{Host, PageName};
@@ -62,7 +63,7 @@ pub fn start<H: Host>(alloc: Global, host: &mut H, pages: u64) -> Result<Begun, 
     requires durable { IsDurable H.meaning host.old }
     ensures begun { IfOk result (λ begun. IsTrue H.meaning.tells
         → (start : Start) × IsStartReady (H.meaning.contents host.old).file start × TellsStart start begun
-        × IsBegun start (H.meaning.contents host.new)) }
+        × RepresentsStart start (H.meaning.contents host.new)) }
     ensures durable { OnOk result (IsDurable H.meaning host.new) }
     ensures cause { IfErr result (λ why. IsTrue H.meaning.tells → NeedsNoCause why
         ⊎ IsStartRefused (H.meaning.contents host.old).file why) }
@@ -72,7 +73,7 @@ pub fn start<H: Host>(alloc: Global, host: &mut H, pages: u64) -> Result<Begun, 
     ensures ran { RanSession H.meaning (StartLeads H.meaning.crashes.is_honest) host.old host.new result }
 {
     let plan = plan_run(alloc, host)?;
-    let mut cache = Cache::new(alloc, pages as usize)?;
+    let mut cache = cache_of(alloc, pages)?;
     let mut sorter = Sorter::new(alloc);
     let Census { count, gone, .. } = plan.census;
     let ready = prepare(host, &plan.params, count, plan.time, gone)?;
@@ -137,12 +138,12 @@ fn lay_bodies<H: Host>(
     ensures laid { OnOk result (IsTrue H.meaning.tells → (bodies : List Bodies)
         → IsPlanned plan.now bodies ((H.meaning.contents host.old).file init_file)
         → HoldsBodies ((H.meaning.contents host.new).file (slot_of 0)) (sorted_by by_key bodies)) }
-    ensures cause { IfErr result (λ why. NeedsNoCause why ⊎ IsBroken H.meaning IsReadFile (λ bodies.
+    ensures cause { IfErr result (λ why. NeedsNoCause why ⊎ IsBroken H.meaning (IsLaidPlace plan.now.census.count) (λ bodies.
         IsPlanned plan.now bodies ((H.meaning.contents host.old).file init_file)) why) }
     ensures ran { RanCached H.meaning Refusal.Device (slot_of 0 ∷ drifted_file ∷ []) cache.old host.old
         cache.new host.new result }
 {
-    read_again(host, cache, plan)?;
+    let census = read_again(host, cache, plan)?;
     reorder(
         host,
         cache,
@@ -150,50 +151,55 @@ fn lay_bodies<H: Host>(
         &ByKey,
         READ_FILE,
         Slot::of(0).file(),
-        plan.census.count,
+        census.count,
     )?;
     cache.flush(host)?;
     Ok(())
 }
 
-/// Reads the initial snapshot again, into a file of bodies. It has to be the one that was planned with.
-fn read_again<H: Host>(host: &mut H, cache: &mut Cache, plan: &Plan) -> Result<(), Refusal>
+/// Reads the initial snapshot again, into a file of bodies, and answers what it counted of them. It has to be
+/// what was planned with.
+fn read_again<H: Host>(host: &mut H, cache: &mut Cache, plan: &Plan) -> Result<Census, Refusal>
     requires plan { IsPlan plan.now }
     requires written { cache.old.unwritten ≡ [] }
     requires in_step { IsInStep H.meaning cache.old host.old }
+    ensures same { IfOk result (λ census. census ≡ plan.now.census) }
     ensures read { OnOk result (IsTrue H.meaning.tells → (bodies : List Bodies)
         → IsPlanned plan.now bodies ((H.meaning.contents host.old).file init_file)
         → HoldsBodies (seen H.meaning cache.new host.new drifted_file) bodies) }
-    ensures cause { IfErr result (λ why. NeedsNoCause why ⊎ IsBroken H.meaning IsReadFile (λ bodies.
+    ensures cause { IfErr result (λ why. NeedsNoCause why ⊎ IsBroken H.meaning (IsReadPlace plan.now.census.count) (λ bodies.
         IsPlanned plan.now bodies ((H.meaning.contents host.old).file init_file)) why) }
     ensures ran { RanCached H.meaning Refusal.Device (drifted_file ∷ []) cache.old host.old
         cache.new host.new result }
 {
     cache.empty(host, READ_FILE)?;
-    let reader = begin_again(host)?;
-    if reader.count() != plan.census.count || reader.time() != plan.time {
-        return Err(damaged_init(0));
-    }
+    let reader = begin_again(host, plan)?;
     let census = copy_bodies(host, cache, reader)?;
     if census != plan.census {
         return Err(damaged_init(0));
     }
-    Ok(())
+    Ok(census)
 }
 
-/// Reads the header of the initial snapshot again. It only reads.
-fn begin_again<H: Host>(host: &mut H) -> Result<SnapReader, Refusal>
+/// Reads the header of the initial snapshot again, which has to tell what was planned with. It only reads.
+fn begin_again<H: Host>(host: &mut H, plan: &Plan) -> Result<SnapReader, Refusal>
     ensures start { IfOk result (IsAtStart init_file) }
+    ensures count { IfOk result (λ reader. count_of reader ≡ plan.now.census.count) }
+    ensures time { IfOk result (λ reader. time_of reader ≡ plan.now.time) }
     ensures header { IfOk result (λ reader. IsTrue H.meaning.tells
         → HasRead reader ((H.meaning.contents host.old).file init_file) []) }
-    ensures cause { IfErr result (λ why. NeedsNoCause why ⊎ IsBroken H.meaning IsReadFile (λ bodies.
-        (time : ℕ) × IsSnapshot ((H.meaning.contents host.old).file init_file) bodies time) why) }
+    ensures cause { IfErr result (λ why. NeedsNoCause why ⊎ IsBroken H.meaning (λ page. page ≡ place_of_body 0) (λ bodies.
+        IsPlanned plan.now bodies ((H.meaning.contents host.old).file init_file)) why) }
     ensures ran { Ran H.meaning Refusal.Device Stays host.old host.new result }
 {
-    match SnapReader::begin(host, INIT_FILE) {
-        Ok(reader) => Ok(reader),
-        Err(error) => Err(second_refusal(error, 0)),
+    let reader = match SnapReader::begin(host, INIT_FILE) {
+        Ok(reader) => reader,
+        Err(error) => return Err(second_refusal(error, 0)),
+    };
+    if reader.count() != plan.census.count || reader.time() != plan.time {
+        return Err(damaged_init(0));
     }
+    Ok(reader)
 }
 
 /// Reads on to the end of the initial snapshot, adds its bodies to a file without kicks, and counts them.
@@ -212,7 +218,7 @@ fn copy_bodies<H: Host>(
         → (bodies : List Bodies) × (census ≡ census_of bodies)
         × IsSnapshot ((H.meaning.contents host.old).file init_file) bodies (time_of reader)
         × HoldsBodies (seen H.meaning cache.new host.new drifted_file) bodies) }
-    ensures cause { IfErr result (λ why. NeedsNoCause why ⊎ IsBroken H.meaning IsReadFile (λ bodies.
+    ensures cause { IfErr result (λ why. NeedsNoCause why ⊎ IsBroken H.meaning (IsCopyEnd H.meaning reader cache.old host.old) (λ bodies.
         HasRead reader ((H.meaning.contents host.old).file init_file) []
         × (seen H.meaning cache.old host.old drifted_file ≡ [])
         × ((time : ℕ) × IsSnapshot ((H.meaning.contents host.old).file init_file) bodies time)) why) }

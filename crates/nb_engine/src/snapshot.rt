@@ -11,13 +11,12 @@ ghost use Rattle.nb_format.specs.Writer.{Plan, plan_of, added_count, last_added,
 ghost use Rattle.nb_cache.specs.View.{seen};
 ghost use Rattle.nb_tick.specs.Slots.{slot_of, sorted_file};
 ghost use Rattle.nb_engine.specs.Due.{TellsDue};
-ghost use Rattle.nb_engine.specs.Files.{IsPagedFile};
 ghost use Rattle.nb_engine.specs.Frame.{EachImage, RanSession};
 ghost use Rattle.nb_engine.specs.Histories.{History};
 ghost use Rattle.nb_engine.specs.Refusal.{NeedsNoCause};
 ghost use Rattle.nb_engine.specs.Represents.{snap_of};
-ghost use Rattle.nb_engine.specs.Snapshots.{snapshot_files, HoldsByIds, HoldsByKeys, IsBroken};
-ghost use Rattle.nb_engine.specs.Steps.{IsAt, IsSettled, IsSpoilt, IsUpToDate, GoesOn, HasPlayed};
+ghost use Rattle.nb_engine.specs.Snapshots.{snapshot_files, HoldsByIds, HoldsByKeys, IsEnd, IsSnapshotPage, IsBroken};
+ghost use Rattle.nb_engine.specs.Steps.{IsCheckpoint, IsFlushed, IsSpoilt, IsUpToDate, GoesOn, HasPlayed};
 
 use crate::files::{SORTED_FILE, snapshot_file};
 use crate::refusal::Refusal;
@@ -37,13 +36,15 @@ pub(crate) fn finish<H: Host>(
     journal: &Journal,
     due: bool,
 ) -> Result<(), Refusal>
-    requires { IsSettled H.meaning work.old.cache host.old }
-    ensures settled { OnOk result (IsSettled H.meaning work.new.cache host.new) }
+    requires { IsFlushed H.meaning work.old.cache host.old }
+    ensures settled { OnOk result (IsFlushed H.meaning work.new.cache host.new) }
+    ensures pages { OnOk result (work.new.cache.pages ≡ work.old.cache.pages) }
+    ensures pool { OnOk result (work.new.pool ≡ work.old.pool) }
     ensures durable { OnOk result (IsDurable H.meaning host.old → IsDurable H.meaning host.new) }
-    ensures finished { OnOk result ((h : History) → TellsDue h due → IsAt H.meaning h journal.now host.old
+    ensures finished { OnOk result ((h : History) → TellsDue h due → IsCheckpoint H.meaning h journal.now host.old
         → HasPlayed H.meaning 0 h (H.meaning.contents host.old) journal.now host.new
         × IsUpToDate H.meaning h host.new) }
-    ensures images { (h : History) → TellsDue h due → IsAt H.meaning h journal.now host.old
+    ensures images { (h : History) → TellsDue h due → IsCheckpoint H.meaning h journal.now host.old
         → EachImage H.meaning (GoesOn 0 h (H.meaning.contents host.old)) host.old host.new }
     ensures spared { IsTrue H.meaning.tells → (IsTrue due → ⊥)
         ⊎ IsFinishedSnapshot journal.now.count ((H.meaning.contents host.old).file (snap_of journal.now.progress.ticks))
@@ -69,8 +70,10 @@ fn write_snapshot<H: Host>(
     work: &mut Workspace,
     journal: &Journal,
 ) -> Result<(), Refusal>
-    requires { IsSettled H.meaning work.old.cache host.old }
-    ensures settled { OnOk result (IsSettled H.meaning work.new.cache host.new) }
+    requires { IsFlushed H.meaning work.old.cache host.old }
+    ensures settled { OnOk result (IsFlushed H.meaning work.new.cache host.new) }
+    ensures pages { OnOk result (work.new.cache.pages ≡ work.old.cache.pages) }
+    ensures pool { OnOk result (work.new.pool ≡ work.old.pool) }
     ensures written { OnOk result (IsTrue H.meaning.tells → (bodies : List Bodies)
         → HoldsByKeys journal.now.count bodies ((H.meaning.contents host.old).file (slot_of journal.now.progress.ticks))
         → IsSnapshot ((H.meaning.contents host.new).file (snap_of journal.now.progress.ticks)) bodies
@@ -80,7 +83,8 @@ fn write_snapshot<H: Host>(
         ((H.meaning.contents host.old).file (slot_of journal.now.progress.ticks)))
         → Leads H.meaning (ChangesWith (sorted_file ∷ []) (snap_of journal.now.progress.ticks)
         (IsWritten bodies journal.now.progress.time)) host.old host.new }
-    ensures cause { IfErr result (λ why. NeedsNoCause why ⊎ IsBroken H.meaning IsPagedFile (λ bodies.
+    ensures cause { IfErr result (λ why. NeedsNoCause why
+        ⊎ IsBroken H.meaning (IsSnapshotPage journal.now.progress.ticks) (λ bodies.
         HoldsByKeys journal.now.count bodies
         ((H.meaning.contents host.old).file (slot_of journal.now.progress.ticks))) why) }
     ensures ran { RanSession H.meaning (AgreesOutside (snapshot_files journal.now.progress.ticks))
@@ -117,8 +121,9 @@ fn add_bodies<H: Host>(
     requires file { 16 ≤ (plan_of filling).file }
     requires none { added_count filling ≡ 0 }
     requires first { last_added filling ≡ None }
-    requires settled { IsSettled H.meaning cache.old host.old }
-    ensures settled { OnOk result (IsSettled H.meaning cache.new host.new) }
+    requires settled { IsFlushed H.meaning cache.old host.old }
+    ensures settled { OnOk result (IsFlushed H.meaning cache.new host.new) }
+    ensures pages { OnOk result (cache.new.pages ≡ cache.old.pages) }
     ensures full { IfOk result (λ full. (plan_of full ≡ plan_of filling) × (added_count full ≡ count)) }
     ensures added { IsTrue H.meaning.tells → (plan : Plan) (bodies : List Bodies) (start : H)
         → HoldsByIds count bodies (seen H.meaning cache.old host.old sorted_file)
@@ -127,7 +132,8 @@ fn add_bodies<H: Host>(
     ensures refused { (plan : Plan) (start : H)
         → IsBeingWritten H.meaning (sorted_file ∷ []) plan filling [] start host.old
         → Leads H.meaning (ChangesWith (sorted_file ∷ []) plan.file StaysUnfinished) start host.new }
-    ensures cause { IfErr result (λ why. NeedsNoCause why ⊎ IsBroken H.meaning IsPagedFile (λ bodies.
+    ensures cause { IfErr result (λ why. NeedsNoCause why
+        ⊎ IsBroken H.meaning (IsEnd H.meaning count cache.old host.old) (λ bodies.
         HoldsByIds count bodies (seen H.meaning cache.old host.old sorted_file)) why) }
     ensures ran { RanSession H.meaning (AgreesOutside (sorted_file ∷ (plan_of filling).file ∷ []))
         host.old host.new result }

@@ -1,6 +1,6 @@
 //! Ticks one after the other, each with its entry, its line and its snapshot.
 
-ghost use Rattle.std.specs.Prelude.{◌≡◌, ◌≢◌, ◌⊎◌, ◌≤◌, ℕ, suc, List, [], IsTrue, IfOk, IfErr, OnOk};
+ghost use Rattle.std.specs.Prelude.{◌≡◌, ◌≢◌, ◌⊎◌, ◌<◌, ◌≤◌, ℕ, suc, List, [], IsTrue, IfOk, IfErr, OnOk};
 ghost use Rattle.nb_model.specs.declared.body.Body.{Body as Bodies};
 ghost use Rattle.nb_model.specs.Leapfrog.{escaped_count};
 ghost use Rattle.nb_host.specs.declared.host.TheConstants.{LAST_FILE};
@@ -9,12 +9,14 @@ ghost use Rattle.nb_host.specs.Image.{FileBecomes, IsPartlyCut};
 ghost use Rattle.nb_host.specs.Meaning.{IsDurable, Leads, Ran};
 ghost use Rattle.nb_journal.specs.Counters.{Answers, counters_after};
 ghost use Rattle.nb_journal.specs.declared.entry.Entry.TheVariants as entries;
+ghost use Rattle.nb_tick.specs.Slots.{slot_of};
+ghost use Rattle.nb_engine.specs.declared.refusal.Refusal.TheVariants as refusals;
 ghost use Rattle.nb_engine.specs.Frame.{EachImage, KeepsApart, RanSession};
 ghost use Rattle.nb_engine.specs.Histories.{History, state_of, run_of, ticks_of, IsHistory, ticked};
 ghost use Rattle.nb_engine.specs.Refusal.{NeedsNoCause};
 ghost use Rattle.nb_engine.specs.Represents.{RepresentsRun};
 ghost use Rattle.nb_engine.specs.Sessions.{ticks_left};
-ghost use Rattle.nb_engine.specs.Steps.{played, IsAt, IsSettled, HasState, IsSpoilt, fill_files, IsFilled, HasNext, GoesOn, HasPlayed, IsUpToDate};
+ghost use Rattle.nb_engine.specs.Steps.{played, IsCheckpoint, IsFlushed, HasState, IsSpoilt, fill_files, IsFilled, HasNext, GoesOn, HasPlayed, IsUpToDate};
 
 use crate::due::is_due;
 use crate::files::snapshot_file;
@@ -33,16 +35,16 @@ pub(crate) fn run_leg<H: Host>(
     work: &mut Workspace,
     journal: Journal,
 ) -> Result<Journal, Refusal>
-    requires { IsSettled H.meaning work.old.cache host.old }
+    requires { IsFlushed H.meaning work.old.cache host.old }
     ensures durable { OnOk result (IsDurable H.meaning host.old → IsDurable H.meaning host.new) }
     ensures ended { IfOk result (λ next. next.progress.time ≡ next.progress.target) }
     ensures target { IfOk result (λ next. next.progress.target ≡ journal.progress.target) }
     ensures still { journal.progress.time ≡ journal.progress.target → Leads H.meaning Stays host.old host.new }
-    ensures run { IfOk result (λ next. (h : History) → IsAt H.meaning h journal host.old
+    ensures run { IfOk result (λ next. (h : History) → IsCheckpoint H.meaning h journal host.old
         → IsUpToDate H.meaning h host.old
         → HasPlayed H.meaning (ticks_left journal.progress) h (H.meaning.contents host.old) next host.new
         × IsUpToDate H.meaning (played (ticks_left journal.progress) h) host.new) }
-    ensures images { (h : History) → IsAt H.meaning h journal host.old → IsUpToDate H.meaning h host.old
+    ensures images { (h : History) → IsCheckpoint H.meaning h journal host.old → IsUpToDate H.meaning h host.old
         → EachImage H.meaning (GoesOn (ticks_left journal.progress) h (H.meaning.contents host.old))
         host.old host.new }
     ensures cause { IfErr result (λ why. NeedsNoCause why ⊎ IsSpoilt H.meaning journal host.old why) }
@@ -59,19 +61,19 @@ pub(crate) fn run_leg<H: Host>(
 /// One tick, with its entry, its line and its snapshot, where that is due.
 fn step<H: Host>(host: &mut H, work: &mut Workspace, journal: Journal) -> Result<Journal, Refusal>
     requires leg { journal.progress.time ≢ journal.progress.target }
-    requires settled { IsSettled H.meaning work.old.cache host.old }
-    ensures settled { OnOk result (IsSettled H.meaning work.new.cache host.new) }
+    requires settled { IsFlushed H.meaning work.old.cache host.old }
+    ensures settled { OnOk result (IsFlushed H.meaning work.new.cache host.new) }
     ensures durable { OnOk result (IsDurable H.meaning host.new) }
     ensures counters { IfOk result (λ next. (gone : ℕ)
         × (next ≡ counters_after (entries.Tick (suc journal.progress.ticks) gone) journal)) }
-    ensures ticked { IfOk result (λ next. (h : History) → IsAt H.meaning h journal host.old
+    ensures ticked { IfOk result (λ next. (h : History) → IsCheckpoint H.meaning h journal host.old
         → IsUpToDate H.meaning h host.old
         → HasPlayed H.meaning 1 h (H.meaning.contents host.old) next host.new
         × IsUpToDate H.meaning (ticked h) host.new) }
     ensures next { IfOk result (λ next. IsTrue H.meaning.tells → (bodies : List Bodies)
         → HasState journal bodies (H.meaning.contents host.old).file
         → (later : List Bodies) × HasState next later (H.meaning.contents host.new).file) }
-    ensures images { (h : History) → IsAt H.meaning h journal host.old → IsUpToDate H.meaning h host.old
+    ensures images { (h : History) → IsCheckpoint H.meaning h journal host.old → IsUpToDate H.meaning h host.old
         → EachImage H.meaning (GoesOn 1 h (H.meaning.contents host.old)) host.old host.new }
     ensures cause { IfErr result (λ why. NeedsNoCause why ⊎ IsSpoilt H.meaning journal host.old why) }
     ensures ran { RanSession H.meaning KeepsApart host.old host.new result }
@@ -89,43 +91,53 @@ fn tick_once<H: Host>(
     journal: Journal,
 ) -> Result<Journal, Refusal>
     requires leg { journal.progress.time ≢ journal.progress.target }
-    requires settled { IsSettled H.meaning work.old.cache host.old }
-    ensures settled { OnOk result (IsSettled H.meaning work.new.cache host.new) }
+    requires settled { IsFlushed H.meaning work.old.cache host.old }
+    ensures settled { OnOk result (IsFlushed H.meaning work.new.cache host.new) }
     ensures durable { OnOk result (IsDurable H.meaning host.new) }
     ensures counters { IfOk result (λ next. (gone : ℕ)
         × (next ≡ counters_after (entries.Tick (suc journal.progress.ticks) gone) journal)) }
-    ensures ticked { IfOk result (λ next. (h : History) → IsAt H.meaning h journal host.old
+    ensures ticked { IfOk result (λ next. (h : History) → IsCheckpoint H.meaning h journal host.old
         → IsUpToDate H.meaning h host.old
         → HasPlayed H.meaning 1 h (H.meaning.contents host.old) next host.new) }
     ensures next { IfOk result (λ next. IsTrue H.meaning.tells → (bodies : List Bodies)
         → HasState journal bodies (H.meaning.contents host.old).file
         → (later : List Bodies) × HasState next later (H.meaning.contents host.new).file) }
-    ensures images { (h : History) → IsAt H.meaning h journal host.old → IsUpToDate H.meaning h host.old
+    ensures images { (h : History) → IsCheckpoint H.meaning h journal host.old → IsUpToDate H.meaning h host.old
         → EachImage H.meaning (GoesOn 1 h (H.meaning.contents host.old)) host.old host.new }
     ensures cause { IfErr result (λ why. NeedsNoCause why ⊎ IsSpoilt H.meaning journal host.old why) }
     ensures ran { RanSession H.meaning KeepsApart host.old host.new result }
 {
-    let _ = journal.params();
     let ticks = journal.ticks();
     let gone = fill(host, work, &journal)?;
-    if gone < journal.gone() {
-        return Err(Refusal::Damaged(PageName {
-            file: Slot::of(ticks).file(),
-            page: 0,
-        }));
-    }
+    keep_gone(&journal, gone)?;
     let next = journal.append(host, Entry::Tick(ticks + 1, gone))?;
     let line = tick_line(ticks + 1, next.time(), gone);
     host.say(Channel::Out, line.bytes())?;
     Ok(next)
 }
 
+/// Finds that at least as many bodies are out as before. Where fewer are, the slot of the last tick isn't what
+/// it has to be, from its first page on.
+fn keep_gone(journal: &Journal, gone: u64) -> Result<(), Refusal>
+    ensures kept { OnOk result (journal.now.progress.gone ≤ gone) }
+    ensures fewer { IfErr result (λ why. (gone < journal.now.progress.gone)
+        × (why ≡ refusals.Damaged (record { file = slot_of journal.now.progress.ticks; page = 0 }))) }
+{
+    if gone < journal.gone() {
+        return Err(Refusal::Damaged(PageName {
+            file: Slot::of(journal.ticks()).file(),
+            page: 0,
+        }));
+    }
+    Ok(())
+}
+
 /// Fills the other slot with the bodies one tick on, and empties the file under the name of that tick's
 /// snapshot. The answer is how many bodies are out then.
 fn fill<H: Host>(host: &mut H, work: &mut Workspace, journal: &Journal) -> Result<u64, Refusal>
     requires leg { journal.now.progress.time ≢ journal.now.progress.target }
-    requires settled { IsSettled H.meaning work.old.cache host.old }
-    ensures settled { OnOk result (IsSettled H.meaning work.new.cache host.new) }
+    requires settled { IsFlushed H.meaning work.old.cache host.old }
+    ensures settled { OnOk result (IsFlushed H.meaning work.new.cache host.new) }
     ensures filled { IfOk result (λ gone. IsTrue H.meaning.tells → (h : History)
         → Answers h.log journal.now → IsHistory h → RepresentsRun h (H.meaning.contents host.old)
         → IsFilled h (H.meaning.contents host.new)

@@ -16,7 +16,7 @@ use Rattle.nb_record.specs.Tree.{IsTreeOf}
 use Rattle.nb_walk.specs.Page.{IsPageOf}
 use Rattle.nb_walk.specs.Pool.{PoolValue, PooledWalk, AreOn, IsWanted, SomeWaits}
 use Rattle.nb_walk.proofs.Callers.{some_wanted, wanted_pages}
-use Rattle.nb_force.specs.Groups.{IsNoTree}
+use Rattle.nb_force.specs.Groups.{IsBrokenTree}
 use Rattle.nb_force.specs.Rounds.{shown_of, KeepsWalks, HasPaused}
 use Rattle.nb_force.proofs.Views.{tree_after, reads_keep}
 
@@ -60,7 +60,7 @@ module _ {H : Type 0} {m : HostModel H} (params : Params) (tree : Tree) (old_cac
   -- a wanted page that isn't whole is no tree's
   pub fetch_no_tree : (pool : PoolValue) (done : Bool) (name : PageName) → HasPaused new_cache tree pool done
       → (IsTrue m.tells → (bodies : List Body) → IsTreeOf tree (seen m old_cache old) params bodies → AreOn params bodies tree (seen m old_cache old tree.cells) pool.walks)
-      → Contains pool.wants name → (IsTrue m.tells → ¬ IsWhole new_cache (m.contents new) name) → IsNoTree m params tree old_cache old name
+      → Contains pool.wants name → (IsTrue m.tells → ¬ IsWhole new_cache (m.contents new) name) → IsBrokenTree m params tree old_cache old name
   fetch_no_tree pool done name paused on named short = record {
     file = elim (All-contains (IsPageOf tree) pool.wants name paused.wants.pages named).file [ inl of_cells ↦ inr of_cells | inr of_bodies ↦ inl of_bodies ];
     cause = λ tells bodies of_tree.

@@ -17,7 +17,7 @@ use Rattle.nb_order.specs.Files.{page_of_body}
 use Rattle.nb_order.specs.Refusals.{IsNoBody}
 use Rattle.nb_walk.specs.Items.{in_order}
 use Rattle.nb_order.specs.declared.body_file.KickedBody.{KickedBody}
-use Rattle.nb_force.specs.Groups.{kicked_range, IsNoTree, IsKickAt, TakesRange, IsNoRange}
+use Rattle.nb_force.specs.Groups.{kicked_range, IsBrokenTree, IsKickAt, TakesRange, IsNoRange}
 use Rattle.nb_force.specs.Receiver.{ReceiverModel, Takes}
 use Rattle.nb_force.specs.Kicks.{kicked_bodies, kicked_of}
 use Rattle.nb_force.proofs.Lists.{range_one, mapped_at}
@@ -31,7 +31,7 @@ front_within bodies =
 
 module _ {H : Type 0} {m : HostModel H} (params : Params) (tree : Tree) {cache : CacheValue} {host : H} (index : ℕ) (below : index < tree.count) where
   -- a body that isn't there is no tree's
-  pub no_body_no_tree : {name : PageName} → IsNoBody m cache host tree.bodies index name → IsNoTree m params tree cache host name
+  pub no_body_no_tree : {name : PageName} → IsNoBody m cache host tree.bodies index name → IsBrokenTree m params tree cache host name
   no_body_no_tree none = record {
     file = inl (ap (λ (n : PageName). n.file) none.page);
     cause = λ tells bodies of_tree.
@@ -42,7 +42,7 @@ module _ {H : Type 0} {m : HostModel H} (params : Params) (tree : Tree) {cache :
   -- nor is one that has left the box
   pub escaped_no_tree : (body : Body) {name : PageName} → name ≡ page_of_body tree.bodies index → body.out ≡ true
       → (IsTrue m.tells → (bodies : List Body) → HoldsBodies (seen m cache host tree.bodies) bodies → slice_get bodies index ≡ Some body)
-      → IsNoTree m params tree cache host name
+      → IsBrokenTree m params tree cache host name
   escaped_no_tree body page out listed = record {
     file = inl (ap (λ (n : PageName). n.file) page);
     cause = λ tells bodies of_tree.

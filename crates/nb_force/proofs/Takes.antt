@@ -9,7 +9,7 @@ use Rattle.nb_cache.specs.Writes.{Writes}
 use Rattle.nb_record.specs.declared.tree.Tree.{Tree}
 use Rattle.nb_record.specs.Tree.{IsTreeOf}
 use Rattle.nb_order.specs.declared.body_file.KickedBody.{KickedBody}
-use Rattle.nb_force.specs.Groups.{kicked_range, TakesRange, IsNoRange, IsNoTree}
+use Rattle.nb_force.specs.Groups.{kicked_range, TakesRange, IsNoRange, IsBrokenTree}
 use Rattle.nb_force.specs.Kicks.{kicked_bodies, indexed_from, TakesAll, IsNoForce}
 use Rattle.nb_force.specs.Receiver.{ReceiverModel, Takes}
 use Rattle.nb_force.proofs.Lists.{range_none, range_split, range_all, length-range, indexed_append, indexed_one, indexed_none}
@@ -17,7 +17,7 @@ use Rattle.nb_force.proofs.Views.{KeepsTree, tree_after, reads_keep, same_seen, 
 
 -- behind calls that write nothing
 pub no_tree_after : {H : Type 0} {m : HostModel H} {params : Params} {tree : Tree} {old_cache middle_cache : CacheValue} {old middle : H} {name : PageName}
-    → Writes m [] old_cache old middle_cache middle → IsNoTree m params tree middle_cache middle name → IsNoTree m params tree old_cache old name
+    → Writes m [] old_cache old middle_cache middle → IsBrokenTree m params tree middle_cache middle name → IsBrokenTree m params tree old_cache old name
 no_tree_after {tree = tree} writes none = record {
   file = none.file;
   cause = λ tells bodies of_tree. none.cause tells bodies (tree_after (reads_keep tree writes) tells of_tree);
@@ -132,7 +132,7 @@ module _ {H R : Type 0} {m : HostModel H} {model : ReceiverModel R} {params : Pa
     }
 
   -- where the files aren't the tree's, no range can be taken
-  pub never : (from end : ℕ) {cache : CacheValue} {host : H} {self : R} {name : PageName} → IsNoTree m params tree cache host name
+  pub never : (from end : ℕ) {cache : CacheValue} {host : H} {self : R} {name : PageName} → IsBrokenTree m params tree cache host name
       → IsNoRange m model params tree from end cache host self name
   never from end none = record {
     file = elim none.file [ inl of_bodies ↦ inl of_bodies | inr of_cells ↦ inr (inl of_cells) ];

@@ -115,4 +115,4 @@ page_file tree (item.Bodies from count) name is = inl (ap (λ (n : PageName). n.
 
 pub blamed_file : {cells bodies : ℕ → Option (List ℕ)} {tree : Tree} {walks : List WalkValue} {name : PageName} → BlamesOne cells bodies tree walks name
     → (name.file ≡ tree.bodies) ⊎ (name.file ≡ tree.cells)
-blamed_file {tree = tree} {name = name} blames = page_file tree blames.looks.item name blames.looks.page
+blamed_file {tree = tree} {name = name} blames = page_file tree blames.item name blames.page

@@ -40,7 +40,7 @@ pub record IsNoRange {H R : Type 0} (m : HostModel H) (model : ReceiverModel R) 
       → (more : List KickedBody) → model.fits self (seen m cache host) (kicked_range params bodies from end ++ more) → ⊥
 
 -- the page is one of the tree's two files, and over a host that tells its contents they aren't the tree's
-pub record IsNoTree {H : Type 0} (m : HostModel H) (params : Params) (tree : Tree) (cache : CacheValue) (host : H) (name : PageName) : Type 0 where
+pub record IsBrokenTree {H : Type 0} (m : HostModel H) (params : Params) (tree : Tree) (cache : CacheValue) (host : H) (name : PageName) : Type 0 where
   pub file : (name.file ≡ tree.bodies) ⊎ (name.file ≡ tree.cells)
   pub cause : IsTrue m.tells → (bodies : List Body) → IsTreeOf tree (seen m cache host) params bodies → ⊥
 

@@ -31,7 +31,7 @@ Takes m model given old_cache old old_self new_cache new new_self =
     → model.has_taken new_self (seen m new_cache new) (list ++ given ∷ [])
 
 -- Over files that are told, a receiver that can take this body and more takes it, and can take the others.
-abbrev pub GoesOn : {H R : Type 0} → HostModel H → ReceiverModel R → KickedBody → CacheValue → H → R → CacheValue → H → R → Result (Unit {0}) ForceError → Type 0
-GoesOn m model kicked old_cache old old_self new_cache new new_self result =
+abbrev pub FitsRest : {H R : Type 0} → HostModel H → ReceiverModel R → KickedBody → CacheValue → H → R → CacheValue → H → R → Result (Unit {0}) ForceError → Type 0
+FitsRest m model kicked old_cache old old_self new_cache new new_self result =
     IsTrue m.tells → (more : List KickedBody) → model.fits old_self (seen m old_cache old) (kicked ∷ more)
     → OnOk result (model.fits new_self (seen m new_cache new) more) × ((name : PageName) → result ≢ Err (Damaged name))

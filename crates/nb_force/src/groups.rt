@@ -12,7 +12,7 @@ ghost use Rattle.nb_cache.specs.Writes.{RanCached};
 ghost use Rattle.nb_record.specs.Tree.{IsTreeOf};
 ghost use Rattle.nb_walk.specs.Pool.{sums};
 ghost use Rattle.nb_walk.specs.Shown.{IsWalkable};
-ghost use Rattle.nb_force.specs.Groups.{TakesRange, IsNoRange, IsNoTree, AreBegun, GoTo, IsKickAt, AreKicksFrom};
+ghost use Rattle.nb_force.specs.Groups.{TakesRange, IsNoRange, IsBrokenTree, AreBegun, GoTo, IsKickAt, AreKicksFrom};
 ghost use Rattle.nb_force.specs.Kicks.{TakesAll, IsNoForce};
 
 use crate::force_error::ForceError;
@@ -112,7 +112,7 @@ fn begin_walks<H: Host>(
         → IsTreeOf tree.now (seen H.meaning cache.old host.old) params bodies
         → GoTo bodies from pool.new.walks) }
     ensures damaged { (name : PageNames) → result ≡ Err (ForceError.Damaged name)
-        → (params : Parameters) → IsNoTree H.meaning params tree.now cache.old host.old name }
+        → (params : Parameters) → IsBrokenTree H.meaning params tree.now cache.old host.old name }
     ensures ran { RanCached H.meaning ForceError.Fault [] cache.old host.old cache.new host.new result }
 {
     pool.clear();

@@ -6,7 +6,7 @@ ghost use Rattle.nb_model.specs.Limits.{kick_limit, most_bodies};
 ghost use Rattle.nb_model.specs.Valid.{IsBelow, IsValidBody};
 ghost use Rattle.nb_cache.specs.InStep.{IsInStep};
 ghost use Rattle.nb_cache.specs.Writes.{RanCached};
-ghost use Rattle.nb_force.specs.Receiver.{ReceiverModel, Takes, GoesOn};
+ghost use Rattle.nb_force.specs.Receiver.{ReceiverModel, Takes, FitsRest};
 
 use crate::force_error::ForceError;
 use nb_cache::Cache;
@@ -36,7 +36,7 @@ pub trait Receiver<H: Host> {
         ensures takes { OnOk result (Takes H.meaning model
             (record { index = index; kicked = record { body = body.now; kick = kick.now } })
             cache.old host.old self.old cache.new host.new self.new) }
-        ensures goes_on { GoesOn H.meaning model (record { body = body.now; kick = kick.now })
+        ensures goes_on { FitsRest H.meaning model (record { body = body.now; kick = kick.now })
             cache.old host.old self.old cache.new host.new self.new result }
         ensures file { OnOk result (model.file self.new ≡ model.file self.old) }
         ensures setting { OnOk result (model.setting self.new ≡ model.setting self.old) }

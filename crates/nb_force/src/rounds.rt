@@ -13,7 +13,7 @@ ghost use Rattle.nb_cache.specs.Writes.{RanCached};
 ghost use Rattle.nb_record.specs.Tree.{IsTreeOf};
 ghost use Rattle.nb_walk.specs.Pool.{targets, sums, pool_bound, AreInRange, AreOn, HaveForces, IsWanted};
 ghost use Rattle.nb_walk.specs.Shown.{IsWalkable};
-ghost use Rattle.nb_force.specs.Groups.{AreBegun, IsNoTree};
+ghost use Rattle.nb_force.specs.Groups.{AreBegun, IsBrokenTree};
 ghost use Rattle.nb_force.specs.Rounds.{KeepsWalks, HasPaused, HasOneOf};
 
 use crate::force_error::ForceError;
@@ -44,7 +44,7 @@ pub(crate) fn finish<H: Host>(
         → IsTreeOf tree.now (seen H.meaning cache.old host.old) params.now bodies
         → HaveForces params.now bodies pool.new.walks) }
     ensures damaged { (name : PageNames) → result ≡ Err (ForceError.Damaged name)
-        → IsNoTree H.meaning params.now tree.now cache.old host.old name }
+        → IsBrokenTree H.meaning params.now tree.now cache.old host.old name }
     ensures ran { RanCached H.meaning ForceError.Fault [] cache.old host.old cache.new host.new result }
 {
     let mut done = advance(cache, pool, params, tree)?;

@@ -20,7 +20,7 @@ use Rattle.nb_record.proofs.Callers.{permuted, sorted, same_mass, length-sorted_
 use Rattle.nb_order.specs.declared.body_file.KickedBody.{KickedBody}
 use Rattle.nb_tick.specs.declared.slot.Slot.{Slot}
 use Rattle.nb_tick.specs.Slots.{slot_file, other_slot}
-use Rattle.nb_tick.specs.Steps.{bodies_of, HoldsList, in_morton_order, drifted_one, kicked_one}
+use Rattle.nb_tick.specs.Steps.{without_kicks, HoldsList, in_morton_order, drifted_one, kicked_one}
 use Rattle.nb_tick.specs.Tick.{LeavesState}
 use Rattle.nb_tick.proofs.Drifts.{first_kicked}
 use Rattle.nb_tick.proofs.Ticks.{ids_differ, in_and_out, IsDriftedList, drifted_list, drifted_box, kicked_slot}
@@ -52,20 +52,20 @@ out_of-drift_body params way b =
     (λ inside _. rw inside (omega arith))
 
 escaped_count-drifted : (params : Params) (way : Way) (list : List KickedBody)
-    → escaped_count (bodies_of list) ≤ escaped_count (bodies_of (map (drifted_one params way) list))
+    → escaped_count (without_kicks list) ≤ escaped_count (without_kicks (map (drifted_one params way) list))
 escaped_count-drifted params way [] = omega arith
 escaped_count-drifted params way (k ∷ ks) =
-    let before = sum_by-cons out_of k.body (bodies_of ks) in
-    let behind = sum_by-cons out_of (drifted_one params way k).body (bodies_of (map (drifted_one params way) ks)) in
+    let before = sum_by-cons out_of k.body (without_kicks ks) in
+    let behind = sum_by-cons out_of (drifted_one params way k).body (without_kicks (map (drifted_one params way) ks)) in
     let one : out_of k.body ≤ out_of (drifted_one params way k).body =
     omega (arith, out_of-first_kicked way k, out_of-drift_body params way (first_kicked way k)) in
     omega (arith, before, behind, one, escaped_count-drifted params way ks)
 
 -- ---- what is left, in the order of ids
 
-module _ (params : Params) (way : Way) (bodies : List Body) (list : List KickedBody) (valid : IsValidBodies params bodies) (is : bodies_of list ≡ sorted_by by_key bodies) (small : All (λ k. IsBelow kick_limit k.kick) list) where
+module _ (params : Params) (way : Way) (bodies : List Body) (list : List KickedBody) (valid : IsValidBodies params bodies) (is : without_kicks list ≡ sorted_by by_key bodies) (small : All (λ k. IsBelow kick_limit k.kick) list) where
   abbrev drifted : List Body
-  drifted = bodies_of (map (drifted_one params way) list)
+  drifted = without_kicks (map (drifted_one params way) list)
 
   abbrev after : List Body
   after = kick params way drifted
@@ -106,7 +106,7 @@ module _ (params : Params) (way : Way) (bodies : List Body) (list : List KickedB
   escaped_of : escaped_count ordered ≡ escaped_count drifted
   escaped_of = sum_by-IsPermutation out_of after ordered order ∙ escaped_count-kick params way drifted
 
-  escaped_before : escaped_count bodies ≡ escaped_count (bodies_of list)
+  escaped_before : escaped_count bodies ≡ escaped_count (without_kicks list)
   escaped_before =
       sym (sum_by-IsPermutation out_of bodies (sorted_by by_key bodies) (permuted by_key bodies)) ∙ ap escaped_count (sym is)
 

@@ -21,7 +21,7 @@ use Rattle.nb_model.proofs.Facts.{map_agree, sum_by_agree, sum_by-map, same_vect
 use Rattle.nb_record.specs.Order.{by_key, sorted_by}
 use Rattle.nb_record.proofs.Callers.{permuted}
 use Rattle.nb_order.specs.declared.body_file.KickedBody.{KickedBody}
-use Rattle.nb_tick.specs.Steps.{bodies_of, half_kicked, in_morton_order, drifted_one}
+use Rattle.nb_tick.specs.Steps.{without_kicks, half_kicked, in_morton_order, drifted_one}
 
 -- ---- one body
 
@@ -72,20 +72,20 @@ first_kicked-half params way bodies b =
 
 -- ---- a list of them
 
-pub bodies_of-map : (f : KickedBody → KickedBody) (list : List KickedBody) → bodies_of (map f list) ≡ map (λ k. (f k).body) list
-bodies_of-map f list = map-map (λ (k : KickedBody). k.body) f list
+pub without_kicks-map : (f : KickedBody → KickedBody) (list : List KickedBody) → without_kicks (map f list) ≡ map (λ k. (f k).body) list
+without_kicks-map f list = map-map (λ (k : KickedBody). k.body) f list
 
 pub drifted_ids : (params : Params) (way : Way) (list : List KickedBody)
-    → map (λ b. b.id) (bodies_of (map (drifted_one params way) list)) ≡ map (λ b. b.id) (bodies_of list)
+    → map (λ b. b.id) (without_kicks (map (drifted_one params way) list)) ≡ map (λ b. b.id) (without_kicks list)
 drifted_ids params way list =
     let id = λ (b : Body). b.id in
-    ap (map id) (bodies_of-map (drifted_one params way) list)
+    ap (map id) (without_kicks-map (drifted_one params way) list)
     ∙ map-map id (λ (k : KickedBody). (drifted_one params way k).body) list
     ∙ map_agree (λ (k : KickedBody). (drifted_one params way k).body.id) (λ (k : KickedBody). k.body.id) (drifted_id params way) list
     ∙ sym (map-map id (λ (k : KickedBody). k.body) list)
 
 pub drifted_masses : (params : Params) (way : Way) (list : List KickedBody)
-    → total_mass (bodies_of (map (drifted_one params way) list)) ≡ total_mass (bodies_of list)
+    → total_mass (without_kicks (map (drifted_one params way) list)) ≡ total_mass (without_kicks list)
 drifted_masses params way list =
     let mass = λ (b : Body). b.mass in
     sum_by-map mass (λ (k : KickedBody). k.body) (map (drifted_one params way) list)
@@ -93,26 +93,26 @@ drifted_masses params way list =
     ∙ sum_by_agree (λ (k : KickedBody). (drifted_one params way k).body.mass) (λ (k : KickedBody). k.body.mass) (drifted_mass params way) list
     ∙ sym (sum_by-map mass (λ (k : KickedBody). k.body) list)
 
-pub all_drifted : (params : Params) (way : Way) (list : List KickedBody) → All IsValidBody (bodies_of list)
-    → All (λ k. IsBelow kick_limit k.kick) list → All IsDriftedBody (bodies_of (map (drifted_one params way) list))
+pub all_drifted : (params : Params) (way : Way) (list : List KickedBody) → All IsValidBody (without_kicks list)
+    → All (λ k. IsBelow kick_limit k.kick) list → All IsDriftedBody (without_kicks (map (drifted_one params way) list))
 all_drifted params way [] valid small = All-nil IsDriftedBody
 all_drifted params way (k ∷ ks) valid small =
-    All-cons IsDriftedBody (drifted_one params way k).body (bodies_of (map (drifted_one params way) ks))
-    (drifted_one_valid params way k (All-head IsValidBody k.body (bodies_of ks) valid) (All-head (λ (one : KickedBody). IsBelow kick_limit one.kick) k ks small))
-    (all_drifted params way ks (All-tail IsValidBody k.body (bodies_of ks) valid) (All-tail (λ (one : KickedBody). IsBelow kick_limit one.kick) k ks small))
+    All-cons IsDriftedBody (drifted_one params way k).body (without_kicks (map (drifted_one params way) ks))
+    (drifted_one_valid params way k (All-head IsValidBody k.body (without_kicks ks) valid) (All-head (λ (one : KickedBody). IsBelow kick_limit one.kick) k ks small))
+    (all_drifted params way ks (All-tail IsValidBody k.body (without_kicks ks) valid) (All-tail (λ (one : KickedBody). IsBelow kick_limit one.kick) k ks small))
 
 -- by the half kicks it is the list after a kick and a drift, in another order
 pub drifted_permuted : (params : Params) (way : Way) (bodies : List Body)
-    → IsPermutation (drift params way (kick params way bodies)) (bodies_of (map (drifted_one params way) (in_morton_order params bodies)))
+    → IsPermutation (drift params way (kick params way bodies)) (without_kicks (map (drifted_one params way) (in_morton_order params bodies)))
 drifted_permuted params way bodies =
     let sorted = sorted_by by_key bodies in
     let moved = λ (b : Body). drift_body params way (accelerate way (half_kick params bodies b) b) in
-    let there : bodies_of (map (drifted_one params way) (in_morton_order params bodies)) ≡ map moved sorted =
-    bodies_of-map (drifted_one params way) (in_morton_order params bodies)
+    let there : without_kicks (map (drifted_one params way) (in_morton_order params bodies)) ≡ map moved sorted =
+    without_kicks-map (drifted_one params way) (in_morton_order params bodies)
     ∙ map-map (λ (k : KickedBody). (drifted_one params way k).body) (half_kicked params bodies) sorted
     ∙ map_agree (λ (b : Body). (drifted_one params way (half_kicked params bodies b)).body) moved
     (λ b. ap (drift_body params way) (first_kicked-half params way bodies b)) sorted in
     let here : drift params way (kick params way bodies) ≡ map moved bodies =
     map-map (drift_body params way) (λ (b : Body). accelerate way (half_kick params bodies b) b) bodies in
-    subst (λ (l : List Body). IsPermutation l (bodies_of (map (drifted_one params way) (in_morton_order params bodies)))) (sym here)
+    subst (λ (l : List Body). IsPermutation l (without_kicks (map (drifted_one params way) (in_morton_order params bodies)))) (sym here)
     (subst (IsPermutation (map moved bodies)) (sym there) (IsPermutation-map moved bodies sorted (permuted by_key bodies)))

@@ -12,7 +12,7 @@ use Rattle.nb_model.specs.Leapfrog.{in_box, half_kick, accelerate, drifted, drif
 use Rattle.nb_record.specs.Order.{by_key, sorted_by}
 use Rattle.nb_record.proofs.Callers.{front, escaped}
 use Rattle.nb_order.specs.declared.body_file.KickedBody.{KickedBody}
-use Rattle.nb_tick.specs.Steps.{bodies_of, half_kicked, in_morton_order, drifted_one, kicked_one, resting_one}
+use Rattle.nb_tick.specs.Steps.{without_kicks, half_kicked, in_morton_order, drifted_one, kicked_one, resting_one}
 use Rattle.nb_tick.proofs.Drifts.{accelerate-zero, half_kick-out}
 
 -- what becomes of a body that is out: nothing
@@ -34,31 +34,31 @@ rests_kicked params way bodies b kick out =
     let same : accelerate way (half_kick params bodies b) b ≡ b = ap (λ (v : V3). accelerate way v b) none ∙ accelerate-zero way b in
     λ t. record { body = sym same t; kick = sym none t }
 
-drop-bodies_of : (n : ℕ) (list : List KickedBody) → bodies_of (drop n list) ≡ drop n (bodies_of list)
-drop-bodies_of zero list = refl
-drop-bodies_of (suc n) [] = refl
-drop-bodies_of (suc n) (k ∷ ks) = drop-bodies_of n ks
+drop-without_kicks : (n : ℕ) (list : List KickedBody) → without_kicks (drop n list) ≡ drop n (without_kicks list)
+drop-without_kicks zero list = refl
+drop-without_kicks (suc n) [] = refl
+drop-without_kicks (suc n) (k ∷ ks) = drop-without_kicks n ks
 
 rested : (params : Params) (bodies : List Body) (made : KickedBody → KickedBody) → Rests params bodies made → (list : List KickedBody)
-    → All (λ b. b.out ≡ true) (bodies_of list) → map resting_one list ≡ map made (map (half_kicked params bodies) (bodies_of list))
+    → All (λ b. b.out ≡ true) (without_kicks list) → map resting_one list ≡ map made (map (half_kicked params bodies) (without_kicks list))
 rested params bodies made rests [] out = refl
 rested params bodies made rests (k ∷ ks) out =
-    let here = rests k.body k.kick (All-head (λ (b : Body). b.out ≡ true) k.body (bodies_of ks) out) in
-    let rest = rested params bodies made rests ks (All-tail (λ (b : Body). b.out ≡ true) k.body (bodies_of ks) out) in
+    let here = rests k.body k.kick (All-head (λ (b : Body). b.out ≡ true) k.body (without_kicks ks) out) in
+    let rest = rested params bodies made rests ks (All-tail (λ (b : Body). b.out ≡ true) k.body (without_kicks ks) out) in
     λ t. here t ∷ rest t
 
 -- The front of the order are the bodies in the box, and behind them those that are out stay as they are.
 pub front_and_back : (params : Params) (bodies : List Body) (made : KickedBody → KickedBody) → Rests params bodies made → (list : List KickedBody)
-    → bodies_of list ≡ sorted_by by_key bodies
+    → without_kicks list ≡ sorted_by by_key bodies
     → map made (map (half_kicked params bodies) (sorted_by by_key (in_box bodies))) ++ map resting_one (drop (length (in_box bodies)) list)
     ≡ map made (in_morton_order params bodies)
 front_and_back params bodies made rests list is =
     let n = length (in_box bodies) in
     let sorted = sorted_by by_key bodies in
     let each = λ (l : List Body). map made (map (half_kicked params bodies) l) in
-    let behind : bodies_of (drop n list) ≡ drop n sorted = drop-bodies_of n list ∙ ap (drop n) is in
+    let behind : without_kicks (drop n list) ≡ drop n sorted = drop-without_kicks n list ∙ ap (drop n) is in
     let back : map resting_one (drop n list) ≡ each (drop n sorted) =
-    rested params bodies made rests (drop n list) (All-same (λ (b : Body). b.out ≡ true) (bodies_of (drop n list)) (drop n sorted) behind (escaped bodies))
+    rested params bodies made rests (drop n list) (All-same (λ (b : Body). b.out ≡ true) (without_kicks (drop n list)) (drop n sorted) behind (escaped bodies))
     ∙ ap each behind in
     ap (λ (l : List KickedBody). each (sorted_by by_key (in_box bodies)) ++ l) back
     ∙ ap (λ (l : List Body). each l ++ each (drop n sorted)) (sym (front bodies))

@@ -12,10 +12,10 @@ use Rattle.nb_record.specs.Order.{record_of, HoldsBodies, HoldsKickedBodies}
 use Rattle.nb_record.specs.Records.{kick_of}
 use Rattle.nb_order.specs.Files.{IsPushed, IsBodyAt}
 use Rattle.nb_order.specs.declared.body_file.KickedBody.{KickedBody}
-use Rattle.nb_tick.specs.Steps.{bodies_of, HoldsList}
+use Rattle.nb_tick.specs.Steps.{without_kicks, HoldsList}
 
-pub length-bodies_of : (list : List KickedBody) → length (bodies_of list) ≡ length list
-length-bodies_of list = length-map list (λ k. k.body)
+pub length-without_kicks : (list : List KickedBody) → length (without_kicks list) ≡ length list
+length-without_kicks list = length-map list (λ k. k.body)
 
 -- ---- the list that a file holds
 
@@ -27,10 +27,10 @@ unfoldable pub kicks_from : List ℕ → ℕ → List Body → List KickedBody
 kicks_from file j [] = []
 kicks_from file j (b ∷ bs) = record { body = b; kick = kick_of (record_of file j) } ∷ kicks_from file (suc j) bs
 
-pub bodies_of-kicks_from : (file : List ℕ) (j : ℕ) (bodies : List Body) → bodies_of (kicks_from file j bodies) ≡ bodies
+pub without_kicks-kicks_from : (file : List ℕ) (j : ℕ) (bodies : List Body) → without_kicks (kicks_from file j bodies) ≡ bodies
 unfolding kicks_from
-bodies_of-kicks_from file j [] = refl
-bodies_of-kicks_from file j (b ∷ bs) = ap (λ l. b ∷ l) (bodies_of-kicks_from file (suc j) bs)
+without_kicks-kicks_from file j [] = refl
+without_kicks-kicks_from file j (b ∷ bs) = ap (λ l. b ∷ l) (without_kicks-kicks_from file (suc j) bs)
 
 kick-kicks_from : (file : List ℕ) (j : ℕ) (bodies : List Body) (i : ℕ) (k : KickedBody) → slice_get (kicks_from file j bodies) i ≡ Some k
     → kick_of (record_of file (j + i)) ≡ k.kick
@@ -68,7 +68,7 @@ held_list file bodies = kicks_from file 0 bodies
 
 pub held_list-holds : (file : List ℕ) (bodies : List Body) → HoldsBodies file bodies → HoldsList file (held_list file bodies)
 held_list-holds file bodies holds = record {
-  bodies = subst (HoldsBodies file) (sym (bodies_of-kicks_from file 0 bodies)) holds;
+  bodies = subst (HoldsBodies file) (sym (without_kicks-kicks_from file 0 bodies)) holds;
   kicks = λ j k is. kick_there file j (0 + j) (omega arith) ∙ kick-kicks_from file 0 bodies j k is;
 }
 
@@ -84,8 +84,8 @@ held_list-known file kick bodies holds =
 
 -- ---- a file with one body more
 
-pub length-list : {file : List ℕ} {list : List KickedBody} → HoldsList file list → (bodies : List Body) → bodies_of list ≡ bodies → length list ≡ length bodies
-length-list {list = list} holds bodies is = sym (length-bodies_of list) ∙ ap length is
+pub length-list : {file : List ℕ} {list : List KickedBody} → HoldsList file list → (bodies : List Body) → without_kicks list ≡ bodies → length list ≡ length bodies
+length-list {list = list} holds bodies is = sym (length-without_kicks list) ∙ ap length is
 
 pushed_cases : (list : List KickedBody) (k one : KickedBody) (j : ℕ) → slice_get (list ++ k ∷ []) j ≡ Some one
     → (slice_get list j ≡ Some one) × (j < length list) ⊎ ((j ≡ length list) × (k ≡ one))
@@ -98,23 +98,23 @@ pushed_cases (x ∷ list) k one (suc j) is = elim (pushed_cases list k one j is)
 ]
 
 pub list_pushed : (old new : List ℕ) (list : List KickedBody) (body : Body) (kick : V3) → HoldsList old list
-    → IsPushed (bodies_of list) body kick old new → HoldsList new (list ++ record { body = body; kick = kick } ∷ [])
+    → IsPushed (without_kicks list) body kick old new → HoldsList new (list ++ record { body = body; kick = kick } ∷ [])
 list_pushed old new list body kick holds pushed =
     let more : KickedBody = record { body = body; kick = kick } in
-    let long = length-bodies_of list in
+    let long = length-without_kicks list in
     record {
       bodies = subst (HoldsBodies new) (sym (map-append (λ (k : KickedBody). k.body) list (more ∷ []))) pushed.holds;
       kicks = λ j k is. elim (pushed_cases list more k j is) [
         | inl before ↦
             ap (λ (bytes : List ℕ). kick_of bytes) (pushed.records j (omega (arith, before.1, long))) ∙ holds.kicks j k before.0
         | inr last ↦
-            kick_there new j (length (bodies_of list)) (last.0 ∙ sym long) ∙ pushed.last ∙ ap (λ (one : KickedBody). one.kick) last.1
+            kick_there new j (length (without_kicks list)) (last.0 ∙ sym long) ∙ pushed.last ∙ ap (λ (one : KickedBody). one.kick) last.1
       ];
     }
 
 -- ---- a body that was read
 
-pub same_body : (list : List KickedBody) (j : ℕ) (k : KickedBody) (b : Body) → slice_get list j ≡ Some k → slice_get (bodies_of list) j ≡ Some b → k.body ≡ b
+pub same_body : (list : List KickedBody) (j : ℕ) (k : KickedBody) (b : Body) → slice_get list j ≡ Some k → slice_get (without_kicks list) j ≡ Some b → k.body ≡ b
 same_body [] j k b at is = absurd (cc)
 same_body (x ∷ xs) zero k b at is = ap (λ (one : KickedBody). one.body) (sym (same_Some x k at)) ∙ same_Some x.body b is
 same_body (x ∷ xs) (suc j) k b at is = same_body xs j k b at is
@@ -122,7 +122,7 @@ same_body (x ∷ xs) (suc j) k b at is = same_body xs j k b at is
 pub read_one : (file : List ℕ) (list : List KickedBody) (j : ℕ) (body : Body) (kick : V3) (k : KickedBody) → HoldsList file list
     → IsBodyAt file j body kick → slice_get list j ≡ Some k → k ≡ record { body = body; kick = kick }
 read_one file list j body kick k holds is at =
-    let within : j < length (bodies_of list) = omega (arith, slice_get_within list j k at, length-bodies_of list) in
+    let within : j < length (without_kicks list) = omega (arith, slice_get_within list j k at, length-without_kicks list) in
     let one : k.body ≡ body = same_body list j k _ at (holds.bodies.held j within) ∙ sym is.body_is in
     let two : k.kick ≡ kick = sym (holds.kicks j k at) ∙ sym is.kick_is in
     λ t. record { body = one t; kick = two t }

@@ -19,13 +19,13 @@ use Rattle.nb_order.specs.declared.body_file.KickedBody.{KickedBody}
 use Rattle.nb_tick.specs.State.{HoldsState}
 use Rattle.nb_tick.specs.Steps.{HoldsList, half_kicked, in_morton_order, drifted_one, resting_one, IsDrifted, CantDrift}
 use Rattle.nb_tick.specs.Writer.{WriterValue, HasWritten, HasCopied, CantCopy}
-use Rattle.nb_tick.proofs.Lists.{length-bodies_of, bodies_of-kicks_from, held_list, held_list-holds, held_list-range, held_list-known}
+use Rattle.nb_tick.proofs.Lists.{length-without_kicks, without_kicks-kicks_from, held_list, held_list-holds, held_list-range, held_list-known}
 use Rattle.nb_tick.proofs.Kicks.{Rests, front_and_back}
 use Rattle.nb_tick.proofs.Written.{written_none, take_end}
 
 length-held_list : (file : List ℕ) (bodies : List Body) (count : ℕ) → length bodies ≡ count → length (held_list file (sorted_by by_key bodies)) ≡ count
 length-held_list file bodies count long =
-    sym (length-bodies_of (held_list file (sorted_by by_key bodies))) ∙ ap length (bodies_of-kicks_from file 0 (sorted_by by_key bodies))
+    sym (length-without_kicks (held_list file (sorted_by by_key bodies))) ∙ ap length (without_kicks-kicks_from file 0 (sorted_by by_key bodies))
     ∙ length-sorted_by by_key bodies ∙ long
 
 -- ---- by the kicks of the records
@@ -45,7 +45,7 @@ module _ {H : Type 0} (m : HostModel H) (params : Params) (from to count : ℕ) 
       ap (map (drifted_one params way)) (take_end list 0 count many) in
       record {
         list = list;
-        bodies_are = bodies_of-kicks_from slot 0 (sorted_by by_key bodies);
+        bodies_are = without_kicks-kicks_from slot 0 (sorted_by by_key bodies);
         range = held_list-range slot (sorted_by by_key bodies) state;
         holds = subst (HoldsList (seen m new_cache new to)) all
             (subst (λ (n : ℕ). HoldsList (seen m new_cache new n) (map (drifted_one params way) (take (count - 0) (drop 0 list)))) file has.holds);
@@ -90,7 +90,7 @@ module _ {H : Type 0} (m : HostModel H) (params : Params) (from begin count : �
       let is : front ++ map resting_one (take (count - begin) (drop begin list)) ≡ map made (in_morton_order params bodies) =
       ap (λ (l : List KickedBody). front ++ map resting_one l) (take_end list begin count many)
       ∙ ap (λ (n : ℕ). front ++ map resting_one (drop n list)) inside
-      ∙ front_and_back params bodies made rests list (bodies_of-kicks_from file 0 (sorted_by by_key bodies)) in
+      ∙ front_and_back params bodies made rests list (without_kicks-kicks_from file 0 (sorted_by by_key bodies)) in
       subst (HasWritten (seen m new_cache new) after) is
       (copied.written tells list (held_list-holds file (sorted_by by_key bodies) holds) (omega (arith, many)) front has)
 

@@ -17,7 +17,7 @@ use Rattle.nb_tick.specs.declared.slot.Slot.{Slot}
 use Rattle.nb_tick.specs.declared.slot.Slot.TheVariants.{Even, Odd}
 use Rattle.nb_tick.specs.Slots.{slot_file, other_slot, drifted_file, sorted_file, cell_file, tick_files}
 use Rattle.nb_tick.specs.State.{HoldsKickedState, IsCellIndexOf}
-use Rattle.nb_tick.specs.Steps.{bodies_of, HoldsList, in_morton_order, drifted_one, kicked_one, IsDrifted, HasTreeOf}
+use Rattle.nb_tick.specs.Steps.{without_kicks, HoldsList, in_morton_order, drifted_one, kicked_one, IsDrifted, HasTreeOf}
 use Rattle.nb_tick.specs.Tick.{IsStepped}
 use Rattle.nb_tick.proofs.Calls.{AreAmong}
 use Rattle.nb_tick.proofs.Drifts.{drifted_permuted}
@@ -50,7 +50,7 @@ slot_seen m from cache host unwritten in_step tells =
 
 module _ (params : Params) (way : Way) (known : Bool) (count : ℕ) (bodies : List Body) (valid : IsValidBodies params bodies) (long : length bodies ≡ count) (slot drifted : List ℕ) (are : IsDrifted params way known bodies slot drifted) where
   abbrev pub moved : List Body
-  moved = bodies_of (map (drifted_one params way) are.list)
+  moved = without_kicks (map (drifted_one params way) are.list)
 
   pub moved_list : IsDriftedList params bodies moved
   moved_list = drifted_list params way bodies are.list valid are.bodies_are are.range
@@ -62,7 +62,7 @@ module _ (params : Params) (way : Way) (known : Bool) (count : ℕ) (bodies : Li
   pub moved_permuted : (known ≡ true → HoldsKickedState params bodies slot) → IsPermutation (drift params way (kick params way bodies)) moved
   moved_permuted kicks =
       subst (λ (l : List Body). IsPermutation (drift params way (kick params way bodies)) l)
-      (ap (λ list. bodies_of (map (drifted_one params way) list)) (sym (are.right kicks)))
+      (ap (λ list. without_kicks (map (drifted_one params way) list)) (sym (are.right kicks)))
       (drifted_permuted params way bodies)
 
   -- ---- the list one step on

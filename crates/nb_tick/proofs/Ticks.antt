@@ -24,9 +24,9 @@ use Rattle.nb_record.proofs.Callers.{permuted, different_ids, different_permuted
 use Rattle.nb_record.proofs.Stepping.{same_half_kick, same_kick, kick_sorted, kicked_tree}
 use Rattle.nb_order.specs.declared.body_file.KickedBody.{KickedBody}
 use Rattle.nb_tick.specs.State.{HoldsKickedState, IsCellIndexOf}
-use Rattle.nb_tick.specs.Steps.{bodies_of, HoldsList, half_kicked, in_morton_order, drifted_one, kicked_one}
-use Rattle.nb_tick.proofs.Lists.{length-bodies_of}
-use Rattle.nb_tick.proofs.Drifts.{bodies_of-map, drifted_ids, drifted_masses, all_drifted}
+use Rattle.nb_tick.specs.Steps.{without_kicks, HoldsList, half_kicked, in_morton_order, drifted_one, kicked_one}
+use Rattle.nb_tick.proofs.Lists.{length-without_kicks}
+use Rattle.nb_tick.proofs.Drifts.{without_kicks-map, drifted_ids, drifted_masses, all_drifted}
 
 -- ---- lists with the ids of another
 
@@ -55,16 +55,16 @@ pub record IsDriftedList (params : Params) (bodies drifted : List Body) : Type 0
   pub each : All IsDriftedBody drifted
 
 pub drifted_list : (params : Params) (way : Way) (bodies : List Body) (list : List KickedBody) → IsValidBodies params bodies
-    → bodies_of list ≡ sorted_by by_key bodies → All (λ k. IsBelow kick_limit k.kick) list
-    → IsDriftedList params bodies (bodies_of (map (drifted_one params way) list))
+    → without_kicks list ≡ sorted_by by_key bodies → All (λ k. IsBelow kick_limit k.kick) list
+    → IsDriftedList params bodies (without_kicks (map (drifted_one params way) list))
 drifted_list params way bodies list valid is small =
     let order = permuted by_key bodies in
     let after = map (drifted_one params way) list in
-    let mass : total_mass (bodies_of after) ≡ total_mass bodies =
+    let mass : total_mass (without_kicks after) ≡ total_mass bodies =
     drifted_masses params way list ∙ ap total_mass is ∙ sym (same_mass bodies (sorted_by by_key bodies) order) in
     record {
-      long = length-bodies_of after ∙ length-map list (drifted_one params way) ∙ sym (length-bodies_of list) ∙ ap length is ∙ length-sorted_by by_key bodies;
-      different = ids_differ (sorted_by by_key bodies) (bodies_of after) (drifted_ids params way list ∙ ap (map (λ (b : Body). b.id)) is)
+      long = length-without_kicks after ∙ length-map list (drifted_one params way) ∙ sym (length-without_kicks list) ∙ ap length is ∙ length-sorted_by by_key bodies;
+      different = ids_differ (sorted_by by_key bodies) (without_kicks after) (drifted_ids params way list ∙ ap (map (λ (b : Body). b.id)) is)
           (different_permuted bodies (sorted_by by_key bodies) (different_ids bodies valid.ids) order);
       gm = subst (λ (n : ℕ). params.grav * n < gm_limit) (sym mass) valid.gm;
       each = all_drifted params way list
@@ -81,7 +81,7 @@ at_each P list j k all is =
     subst P (get_or_from_slice_get list j k k is) (All-get_or P list j k (slice_get_within list j k is) all)
 
 -- the body at an index, with its kick
-body_of_list : (list : List KickedBody) (j : ℕ) (b : Body) → slice_get (bodies_of list) j ≡ Some b
+body_of_list : (list : List KickedBody) (j : ℕ) (b : Body) → slice_get (without_kicks list) j ≡ Some b
     → (k : KickedBody) × (slice_get list j ≡ Some k) × (k.body ≡ b)
 body_of_list [] j b is = absurd (cc)
 body_of_list (k ∷ ks) zero b is = (k, refl, same_Some k.body b is)
@@ -91,11 +91,11 @@ module _ (params : Params) (way : Way) (drifted after : List Body) (box : All (�
   abbrev kicked : List KickedBody
   kicked = map (kicked_one way) (in_morton_order params drifted)
 
-  kicked_order : bodies_of kicked ≡ sorted_by by_key after
+  kicked_order : without_kicks kicked ≡ sorted_by by_key after
   kicked_order =
       let sorted_drifted = sorted_by by_key drifted in
       let order = permuted by_key drifted in
-      bodies_of-map (kicked_one way) (in_morton_order params drifted)
+      without_kicks-map (kicked_one way) (in_morton_order params drifted)
       ∙ map-map (λ (k : KickedBody). (kicked_one way k).body) (half_kicked params drifted) sorted_drifted
       ∙ map_agree (λ (b : Body). accelerate way (half_kick params drifted b) b) (λ (b : Body). accelerate way (half_kick params sorted_drifted b) b)
       (λ b. ap (λ (k : V3). accelerate way k b) (same_half_kick params drifted sorted_drifted b box order)) sorted_drifted

@@ -16,9 +16,9 @@ use Rattle.nb_record.specs.Writing.{IsZeroPaddedFile}
 use Rattle.nb_order.specs.Files.{HasPushed}
 use Rattle.nb_order.specs.Refusals.{IsNoBody}
 use Rattle.nb_order.specs.declared.body_file.KickedBody.{KickedBody}
-use Rattle.nb_tick.specs.Steps.{bodies_of, HoldsList}
+use Rattle.nb_tick.specs.Steps.{without_kicks, HoldsList}
 use Rattle.nb_tick.specs.Writer.{WriterValue, HasWritten, HasAdded, CantAdd, HasCopied, CantCopy}
-use Rattle.nb_tick.proofs.Lists.{length-bodies_of, list_pushed}
+use Rattle.nb_tick.proofs.Lists.{length-without_kicks, list_pushed}
 
 -- ---- a file without bodies
 
@@ -48,8 +48,8 @@ pub written_pushed : (old new : ℕ → List ℕ) (w after : WriterValue) (list 
     → after.file ≡ w.file → after.count ≡ w.count + 1 → HasPushed w.count body kick (old w.file) (new w.file) → HasWritten old w list
     → HasWritten new after (list ++ record { body = body; kick = kick } ∷ [])
 written_pushed old new w after list body kick file count pushed has =
-    let long : length (bodies_of list) ≡ w.count = length-bodies_of list ∙ has.count_is in
-    let one = pushed (bodies_of list) has.holds.bodies long in
+    let long : length (without_kicks list) ≡ w.count = length-without_kicks list ∙ has.count_is in
+    let one = pushed (without_kicks list) has.holds.bodies long in
     record {
       count_is = omega (arith, length-append {A = KickedBody}, has.count_is, count);
       holds = subst (λ (n : ℕ). HoldsList (new n) (list ++ record { body = body; kick = kick } ∷ [])) (sym file)
@@ -171,7 +171,7 @@ pub cant_read : {H : Type 0} {m : HostModel H} {from index : ℕ} {cache : Cache
 cant_read {m = m} {from = from} {index = index} {w = w} {name = name} none = record {
   file = (0, omega arith, sym (ap (λ (n : PageName). n.file) none.page));
   cause = λ tells bodies holds within list has room.
-      let few = none.listed tells (bodies_of bodies) holds.bodies in omega (arith, length-bodies_of bodies);
+      let few = none.listed tells (without_kicks bodies) holds.bodies in omega (arith, length-without_kicks bodies);
 }
 
 -- or there is no room

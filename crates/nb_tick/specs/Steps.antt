@@ -21,12 +21,12 @@ use Rattle.nb_record.specs.Writing.{IsZeroPaddedFile}
 use Rattle.nb_tick.specs.Slots.{drifted_file, sorted_file, cell_file}
 use Rattle.nb_tick.specs.State.{HoldsState, HoldsKickedState}
 
-abbrev pub bodies_of : List KickedBody → List Body
-bodies_of list = map (λ k. k.body) list
+abbrev pub without_kicks : List KickedBody → List Body
+without_kicks list = map (λ k. k.body) list
 
 -- the file holds these bodies, in this order, each with its kick
 pub record HoldsList (file : List ℕ) (list : List KickedBody) : Type 0 where
-  pub bodies : HoldsBodies file (bodies_of list)
+  pub bodies : HoldsBodies file (without_kicks list)
   pub kicks : (j : ℕ) (k : KickedBody) → slice_get list j ≡ Some k → kick_of (record_of file j) ≡ k.kick
 
 -- a body with the half kick that it gets from a list
@@ -57,7 +57,7 @@ resting_one k = record { body = k.body; kick = zero_vector }
 -- they are said to be known and the slot has others.
 pub record IsDrifted (params : Params) (way : Way) (known : Bool) (bodies : List Body) (slot drifted : List ℕ) : Type 0 where
   pub list : List KickedBody
-  pub bodies_are : bodies_of list ≡ sorted_by by_key bodies
+  pub bodies_are : without_kicks list ≡ sorted_by by_key bodies
   pub range : All (λ k. IsBelow kick_limit k.kick) list
   pub holds : HoldsList drifted (map (drifted_one params way) list)
   pub right : (known ≡ true → HoldsKickedState params bodies slot) → list ≡ in_morton_order params bodies

@@ -3,7 +3,7 @@ use Rattle.nb_model.specs.declared.body.Body.{Body}
 use Rattle.nb_host.proofs.Callers.{ok_is_no_error}
 use Rattle.nb_format.specs.declared.snap_error.SnapError.{SnapError}
 use Rattle.nb_format.specs.declared.snap_error.SnapError.TheVariants as snap
-use Rattle.nb_format.specs.Reader.{MayFollow, IsBehind, HasRead}
+use Rattle.nb_format.specs.Reader.{count_of, time_of, MayFollow, IsBehind, HasRead}
 use Rattle.nb_format.specs.Snapshot.{IsSnapshot}
 use Rattle.nb_engine.specs.declared.refusal.Refusal.{Refusal}
 use Rattle.nb_engine.specs.Files.{init_file}
@@ -12,7 +12,7 @@ use Rattle.nb_engine.proofs.Callers.{not_ended}
 use Rattle.nb_cli.specs.Make.{body_at, made_bodies, HasMade}
 use Rattle.nb_cli.specs.Demo.{of_reading_back, IsUnlike}
 use Rattle.nb_cli.proofs.MadeStarts.{length-made}
-use Rattle.nb_cli.proofs.ReadingBack.{HasReadBack, unlike, cause_more, read_back_cause, read_back_fault, refused_never, read_back_none, read_back_told, reads_still, open_still, read_back_more, read_back_ran, read_back_still, made_next, bodies_same, bodies_differ}
+use Rattle.nb_cli.proofs.ReadingBack.{HasReadBack, unlike, cause_more, read_all, read_back_cause, read_back_fault, refused_never, read_back_none, read_back_told, reads_still, open_still, read_back_more, read_back_ran, read_back_still, made_next, bodies_same, bodies_differ}
 use Rattle.nb_cli.proofs.demo_command.find_bodies.Goals as goal
 
 pub returns-in_err-reader-clause-cause : goal.returns-in_err-reader-clause-cause
@@ -126,3 +126,19 @@ loop-index-preserved g c =
           (made_bodies seed index ++ b ∷ [])) same more);
       made = c.next_body.ensures.moved seed index kept.made;
     }
+
+-- ---- where all were
+
+pub returns-clause-found : goal.returns-clause-found
+returns-clause-found g c = λ told.
+    let file = (g.H.Host.meaning.contents c.args.host.now).file init_file in
+    let kept = c.loop-index.invariant in
+    let seed = c.args.seed in
+    let all : c.loop-index.index ≡ c.args.count = omega (arith, c.loop-index-test.false) in
+    let time : time_of c.loop-index.reader ≡ 0 = kept.read.given.time ∙ c.in_ok-reader.ensures.time in
+    let count : length (made_bodies seed c.loop-index.index) ≡ count_of c.loop-index.reader =
+    omega (arith, length-made seed c.loop-index.index, all, kept.read.given.count, c.in_ok-reader.ensures.count) in
+    let read : IsSnapshot file (made_bodies seed c.loop-index.index) (time_of c.loop-index.reader) =
+    read_all (read_back_told kept.read told) count (omega (arith, time)) in
+    subst (λ (n : ℕ). IsSnapshot file (made_bodies seed n) 0) all
+    (subst (λ (n : ℕ). IsSnapshot file (made_bodies seed c.loop-index.index) n) time read)

@@ -1,9 +1,14 @@
 use Rattle.std.proofs.Common.{◌≡◌, ◌⊎◌, inl, inr, IsTrue, IsOk, Ok, Err, sym, subst, ap, ◌∙◌, arith, rules}
 use Rattle.std.proofs.lemmas.Bool.Decides.{nat_tests}
+use Rattle.std.proofs.lemmas.Result.{on_ok_weaker}
 use Rattle.nb_model.specs.declared.params.Params.{Params}
+use Rattle.nb_host.specs.Image.{Image}
+use Rattle.nb_host.proofs.Callers.{stays_contents}
+use Rattle.nb_format.specs.Snapshot.{IsSnapshot}
 use Rattle.nb_engine.specs.declared.refusal.Refusal.TheVariants as refusal
+use Rattle.nb_engine.specs.Files.{init_file}
 use Rattle.nb_engine.specs.Refusal.{NeedsNoCause}
-use Rattle.nb_cli.specs.Make.{made_params}
+use Rattle.nb_cli.specs.Make.{made_bodies, made_params}
 use Rattle.nb_cli.specs.Demo.{IsOfDemo, start_behind_make}
 use Rattle.nb_cli.proofs.DemoCalls.{reads_as, reads_then}
 use Rattle.nb_cli.proofs.DemoRuns.{needless_of_demo, unlike_of_demo}
@@ -46,3 +51,17 @@ returns-then-ne-clause-cause g c = λ told made.
 pub returns-clause-ran : goal.returns-clause-ran
 returns-clause-ran g c =
     let fine : IsOk c.parameters.result = search rules in reads_then fine c.parameters.ensures.ran c.find_bodies.ensures.ran
+
+-- Where both are as they were made.
+
+pub returns-clause-found : goal.returns-clause-found
+returns-clause-found g c =
+    let same : c.in-Ok.params ≡ c.made_params.result = search rules in
+    on_ok_weaker c.find_bodies.result
+    (λ found told. record {
+      parameters = c.in-Ok.ensures.spelled told ∙ ap Ok (same ∙ c.made_params.ensures.value);
+      snapshot =
+          subst (λ (i : Image). IsSnapshot (i.file init_file) (made_bodies c.args.seed c.args.count) 0)
+          (stays_contents c.parameters.ensures.ran.leads) (found told);
+    })
+    c.find_bodies.ensures.found

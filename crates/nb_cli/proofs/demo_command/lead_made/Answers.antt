@@ -6,7 +6,7 @@ use Rattle.nb_engine.specs.Refusal.{NeedsNoCause, of_host}
 use Rattle.nb_engine.specs.Start.{started}
 use Rattle.nb_engine.specs.Sessions.{GoLeads}
 use Rattle.nb_engine.proofs.Callers.{durable_said}
-use Rattle.nb_cli.specs.Telling.{HasGone}
+use Rattle.nb_cli.specs.Telling.{IsGoDone}
 use Rattle.nb_cli.specs.Demo.{IsOfDemo, go_behind_start}
 use Rattle.nb_cli.proofs.Sessions.{session_done}
 use Rattle.nb_cli.proofs.DemoCalls.{session_by, session_refused, session_then, session_unsaid, session_said}
@@ -58,7 +58,7 @@ returns-in_err-say-clause-ran g c =
 pub returns-clause-done : goal.returns-clause-done
 returns-clause-done g c tells =
     let m = g.H.Host.meaning in
-    session_done (GoLeads m.crashes.is_honest c.args.target) (HasGone c.args.target) c.bytes.result.now (c.in-Ok.ensures.ran.leads.contents tells)
+    session_done (GoLeads m.crashes.is_honest c.args.target) (IsGoDone c.args.target) c.bytes.result.now (c.in-Ok.ensures.ran.leads.contents tells)
     (record {
       done = c.in-Ok.done;
       fits = record { time = omega arith; ticks = omega arith; gone = omega arith };

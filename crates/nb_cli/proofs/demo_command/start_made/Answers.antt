@@ -4,7 +4,7 @@ use Rattle.nb_host.proofs.Callers.{ok_is_no_error}
 use Rattle.nb_engine.specs.Refusal.{NeedsNoCause, of_host}
 use Rattle.nb_engine.specs.Start.{Start, StartLeads}
 use Rattle.nb_engine.proofs.Callers.{durable_said}
-use Rattle.nb_cli.specs.Telling.{HasStarted}
+use Rattle.nb_cli.specs.Telling.{IsStartDone}
 use Rattle.nb_cli.specs.Demo.{IsOfDemo, start_behind_make}
 use Rattle.nb_cli.proofs.Sessions.{started_told, session_done}
 use Rattle.nb_cli.proofs.DemoCalls.{session_by, session_refused, session_doubted, session_then, session_unsaid, session_said}
@@ -54,7 +54,7 @@ returns-in_err-say-clause-ran g c =
 pub returns-clause-done : goal.returns-clause-done
 returns-clause-done g c tells =
     let m = g.H.Host.meaning in
-    session_done (StartLeads m.crashes.is_honest) HasStarted c.bytes.result.now (c.in-Ok.ensures.ran.leads.contents tells)
+    session_done (StartLeads m.crashes.is_honest) IsStartDone c.bytes.result.now (c.in-Ok.ensures.ran.leads.contents tells)
     (record {
       start = (c.in-Ok.ensures.begun tells).0;
       ready = (c.in-Ok.ensures.begun tells).1;

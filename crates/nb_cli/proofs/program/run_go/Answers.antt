@@ -6,7 +6,7 @@ use Rattle.nb_engine.specs.Refusal.{of_host}
 use Rattle.nb_engine.specs.Sessions.{GoLeads}
 use Rattle.nb_engine.proofs.Callers.{durable_said}
 use Rattle.nb_cli.specs.declared.words.Job.TheVariants as job
-use Rattle.nb_cli.specs.Telling.{HasGone}
+use Rattle.nb_cli.specs.Telling.{IsGoDone}
 use Rattle.nb_cli.specs.Answer.{of_run, IsJobDone, BringsUp}
 use Rattle.nb_cli.proofs.Causes.{IsCause, cause_still, given_by_go}
 use Rattle.nb_cli.proofs.Runs.{unsynced_run, begun_run, said_answer}
@@ -95,7 +95,7 @@ returns-clause-done g c tells =
     let m = g.H.Host.meaning in
     subst (λ (i : Image). IsJobDone m.crashes.is_honest (job.Go c.args.target c.args.pace) i (m.contents c.say.new.self))
     (stays_contents c.in_ok-sync.ensures.ran.leads)
-    (session_done (GoLeads g.H.Host.meaning.crashes.is_honest c.args.target) (HasGone c.args.target) c.bytes.result.now (c.in_ok-done.ensures.ran.leads.contents tells)
+    (session_done (GoLeads g.H.Host.meaning.crashes.is_honest c.args.target) (IsGoDone c.args.target) c.bytes.result.now (c.in_ok-done.ensures.ran.leads.contents tells)
     (record {
       done = c.in_ok-done.done;
       fits = record { time = omega arith; ticks = omega arith; gone = omega arith };

@@ -6,7 +6,7 @@ use Rattle.nb_engine.specs.Refusal.{of_host}
 use Rattle.nb_engine.specs.Sessions.{ResumeLeads}
 use Rattle.nb_engine.proofs.Callers.{durable_said}
 use Rattle.nb_cli.specs.declared.words.Job.TheVariants as job
-use Rattle.nb_cli.specs.Telling.{HasResumed}
+use Rattle.nb_cli.specs.Telling.{IsResumeDone}
 use Rattle.nb_cli.specs.Answer.{of_run, IsJobDone}
 use Rattle.nb_cli.proofs.Causes.{IsCause, cause_still, given_by_resume}
 use Rattle.nb_cli.proofs.Runs.{unsynced_run, begun_run, said_answer}
@@ -94,7 +94,7 @@ returns-clause-done g c tells =
     let m = g.H.Host.meaning in
     subst (λ (i : Image). IsJobDone m.crashes.is_honest (job.Resume c.args.pace) i (m.contents c.say.new.self))
     (stays_contents c.in_ok-sync.ensures.ran.leads)
-    (session_done (ResumeLeads g.H.Host.meaning.crashes.is_honest) HasResumed c.bytes.result.now (c.in_ok-done.ensures.ran.leads.contents tells)
+    (session_done (ResumeLeads g.H.Host.meaning.crashes.is_honest) IsResumeDone c.bytes.result.now (c.in_ok-done.ensures.ran.leads.contents tells)
     (record {
       done = c.in_ok-done.done;
       fits = record { time = omega arith; ticks = omega arith; gone = omega arith };

@@ -6,7 +6,7 @@ use Rattle.nb_engine.specs.Refusal.{of_host}
 use Rattle.nb_engine.specs.Start.{StartLeads}
 use Rattle.nb_engine.proofs.Callers.{durable_said}
 use Rattle.nb_cli.specs.declared.words.Job.TheVariants as job
-use Rattle.nb_cli.specs.Telling.{HasStarted}
+use Rattle.nb_cli.specs.Telling.{IsStartDone}
 use Rattle.nb_cli.specs.Answer.{of_begin, IsJobDone}
 use Rattle.nb_cli.proofs.Causes.{IsCause, cause_still, given_by_start, never_spoilt}
 use Rattle.nb_cli.proofs.Runs.{unsynced_run, begun_run, said_answer}
@@ -90,7 +90,7 @@ returns-clause-done g c tells =
     let m = g.H.Host.meaning in
     subst (λ (i : Image). IsJobDone m.crashes.is_honest (job.Start c.args.pages) i (m.contents c.say.new.self))
     (stays_contents c.in_ok-sync.ensures.ran.leads)
-    (session_done (StartLeads g.H.Host.meaning.crashes.is_honest) HasStarted c.bytes.result.now (c.in_ok-begun.ensures.ran.leads.contents tells)
+    (session_done (StartLeads g.H.Host.meaning.crashes.is_honest) IsStartDone c.bytes.result.now (c.in_ok-begun.ensures.ran.leads.contents tells)
     (record {
       start = (c.in_ok-begun.ensures.begun tells).0;
       ready = (c.in_ok-begun.ensures.begun tells).1;

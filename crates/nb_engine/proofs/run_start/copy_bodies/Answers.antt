@@ -1,21 +1,23 @@
-use Rattle.std.proofs.Common.{◌≡◌, ◌⊎◌, ℕ, List, [], ◌∷◌, rules, Ok, Err, refl, sym, subst, ap, ◌∙◌}
+use Rattle.std.proofs.Common.{◌≡◌, ◌⊎◌, inl, inr, ℕ, List, [], ◌∷◌, rules, Ok, Err, refl, sym, subst, ap, ◌∙◌}
 use Rattle.nb_model.specs.declared.body.Body.{Body}
+use Rattle.nb_host.specs.declared.page_name.PageName.{PageName}
 use Rattle.nb_cache.specs.View.{seen}
 use Rattle.nb_cache.proofs.Callers.{step_stays}
 use Rattle.nb_format.specs.declared.snap_error.SnapError.{SnapError}
 use Rattle.nb_format.specs.declared.snap_error.SnapError.TheVariants as snap
 use Rattle.nb_format.specs.Reader.{MayFollow, IsBehind, HasRead}
 use Rattle.nb_format.specs.Snapshot.{IsSnapshot}
+use Rattle.nb_format.specs.SnapshotRefusal.{IsOfRecord}
 use Rattle.nb_record.specs.Order.{HoldsBodies}
 use Rattle.nb_tick.specs.Slots.{drifted_file}
 use Rattle.nb_engine.specs.declared.refusal.Refusal.{Refusal}
 use Rattle.nb_engine.specs.Files.{init_file}
 use Rattle.nb_engine.specs.Refusal.{NeedsNoCause, of_order, of_second_reading}
 use Rattle.nb_engine.specs.Snapshots.{IsBroken}
-use Rattle.nb_engine.specs.Start.{IsReadFile}
+use Rattle.nb_engine.specs.Start.{IsCopyEnd}
 use Rattle.nb_engine.proofs.CachedCalls.{went_none, went_on, went_to, ran_reading}
 use Rattle.nb_engine.proofs.Reading.{HasGiven-none, not_ended}
-use Rattle.nb_engine.proofs.SecondReadings.{second_fault, order_is_fault, second_cause, order_cause, page_read, refused_never, holds_nothing, open_still, seen_still, room_left, copied_more}
+use Rattle.nb_engine.proofs.SecondReadings.{second_fault, order_is_fault, second_cause, order_cause, refused_never, holds_nothing, open_still, seen_still, next_below, next_number, room_left, copied_more}
 use Rattle.nb_engine.proofs.Surveys.{room_for, census_given}
 use Rattle.nb_engine.proofs.run_start.copy_bodies.Goals as goal
 
@@ -39,8 +41,24 @@ returns-in-Err-clause-cause g c =
     let file = (m.contents c.args.host.now).file init_file in
     let Holds : List Body → Type 0 = λ bodies. HasRead c.args.reader file []
     × (seen m c.args.cache.now c.args.host.now drifted_file ≡ []) × ((time : ℕ) × IsSnapshot file bodies time) in
-    subst (λ (why : Refusal). NeedsNoCause why ⊎ IsBroken m IsReadFile Holds why) (sym c.second_refusal.ensures)
-    (second_cause Holds c.in-Err.error c.loop-body.census.count
+    let At : PageName → Type 0 = IsCopyEnd m c.args.reader c.args.cache.now c.args.host.now in
+    let count = c.loop-body.census.count in
+    subst (λ (why : Refusal). NeedsNoCause why ⊎ IsBroken m At Holds why) (sym c.second_refusal.ensures)
+    (second_cause At Holds c.in-Err.error count
+    (λ by. record {
+      index = count;
+      below = next_below kept (λ e. let ended = c.in-Err.ensures.end.1 e in absurd (cc));
+      place =
+          inl (
+            refl,
+            λ told begun. record {
+              error = c.in-Err.error;
+              first = c.in-Err.ensures.first file kept.bodies told (kept.given.has told begun)
+                  (open_still c.requires.unwritten c.requires.start kept told) by;
+              of_record = subst (λ (n : ℕ). IsOfRecord n c.in-Err.error) (next_number kept) (c.in-Err.ensures.code by);
+            },
+          );
+    })
     (λ by told bodies holds.
     refused_never (c.in-Err.ensures.first file kept.bodies told (kept.given.has told holds.0)
     (open_still c.requires.unwritten c.requires.start kept told) by) bodies holds.2.0 holds.2.1))
@@ -98,10 +116,15 @@ returns-in_err-push_body-clause-cause g c =
     × (seen m c.args.cache.now c.args.host.now drifted_file ≡ []) × ((time : ℕ) × IsSnapshot file bodies time) in
     let error = c.in_err-push_body.field-0.0 in
     let handed_on : c.from_residual.result ≡ Err (of_order error) = search rules in
-    let cause : NeedsNoCause (of_order error) ⊎ IsBroken m IsReadFile Holds (of_order error) =
-    order_cause Holds error (λ name is.
+    let At : PageName → Type 0 = IsCopyEnd m c.args.reader c.args.cache.now c.args.host.now in
+    let cause : NeedsNoCause (of_order error) ⊎ IsBroken m At Holds (of_order error) =
+    order_cause At Holds error (λ name is.
     let bad = c.push_body.ensures.damaged name (c.in_err-push_body.was ∙ ap Err is) in (
-      page_read c.loop-body.census.count bad.page,
+      record {
+        index = c.loop-body.census.count;
+        below = next_below kept (λ e. not_ended c.in-Ok-Some.field-0-is (c.in-Ok-Some.ensures.end.1 e));
+        place = inr (bad.page, λ told empty. room_left kept c.next.ensures.ran.leads bad told empty);
+      },
       λ told bodies holds. room_left kept c.next.ensures.ran.leads bad told holds.1,
     )) in
     rw handed_on cause

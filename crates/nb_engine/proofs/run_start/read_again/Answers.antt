@@ -1,61 +1,40 @@
-use Rattle.std.proofs.Common.{◌≡◌, ◌⊎◌, inr, ℕ, ◌^◌, ◌<◌, ◌≤◌, List, [], ◌∷◌, IsTrue, Err, sym, subst, ap, ◌∙◌, rules}
+use Rattle.std.proofs.Common.{◌≡◌, ◌⊎◌, inl, inr, ℕ, List, [], ◌∷◌, IsTrue, Err, refl, sym, subst, ◌∙◌, rules}
 use Rattle.nb_model.specs.declared.body.Body.{Body}
-use Rattle.nb_model.specs.Limits.{most_bodies}
+use Rattle.nb_host.specs.declared.page_name.PageName.{PageName}
 use Rattle.nb_host.proofs.Callers.{stays_contents}
 use Rattle.nb_cache.specs.View.{seen}
-use Rattle.nb_format.specs.Reader.{count_of, time_of, HasRead}
+use Rattle.nb_format.specs.Reader.{HasRead}
 use Rattle.nb_format.specs.Snapshot.{IsSnapshot}
 use Rattle.nb_record.specs.Order.{HoldsBodies}
 use Rattle.nb_tick.specs.Slots.{drifted_file}
-use Rattle.nb_engine.specs.declared.init_file.Census.{Census}
 use Rattle.nb_engine.specs.declared.refusal.Refusal.{Refusal}
 use Rattle.nb_engine.specs.Files.{init_file}
 use Rattle.nb_engine.specs.Reading.{IsPlanned}
 use Rattle.nb_engine.specs.Refusal.{NeedsNoCause}
 use Rattle.nb_engine.specs.Snapshots.{IsBroken}
-use Rattle.nb_engine.specs.Start.{IsReadFile}
+use Rattle.nb_engine.specs.Start.{place_of_body, IsCopyEnd, IsReadPlace}
 use Rattle.nb_engine.proofs.Beginnings.{header_now}
 use Rattle.nb_engine.proofs.CachedCalls.{went_none, went_on, went_to, went_as, ran_reading}
-use Rattle.nb_engine.proofs.SecondReadings.{init_broken, cause_more, read_only_none, read_only_kept, init_stays, init_again, seen_still, same_count, same_time, read_same, census_same, censuses_differ}
+use Rattle.nb_engine.proofs.SecondReadings.{init_broken, cause_more, end_read, read_only_none, read_only_kept, init_stays, init_again, seen_still, read_same, census_same, censuses_same, censuses_differ}
 use Rattle.nb_engine.proofs.run_start.read_again.Goals as goal
-use Rattle.nb_engine.proofs.run_start.read_again.Goals.{then-count-plan-via-then-count-plan, then-count-plan-via-else-count-plan+then-time-plan}
 
 -- Where the header is refused, or isn't the one that was planned with.
 
 pub returns-in_err-reader-clause-cause : goal.returns-in_err-reader-clause-cause
 returns-in_err-reader-clause-cause g c =
     let m = g.H.Host.meaning in
-    let why = c.in_err-reader.field-0.0 in
-    let Few : List Body → Type 0 = λ bodies. (time : ℕ)
-    × IsSnapshot ((m.contents c.empty.new.host).file init_file) bodies time in
-    let More : List Body → Type 0 = λ bodies. IsPlanned c.args.plan.now bodies ((m.contents c.args.host.now).file init_file) in
-    let handed_on : c.from_residual-in_err-reader.result ≡ Err why = search rules in
-    let cause : NeedsNoCause why ⊎ IsBroken m IsReadFile More why = cause_more Few More c.in_err-reader.ensures.cause (λ told bodies planned.
-    let same = init_stays (read_only_none c.args.cache.now c.requires.written) c.empty.ensures.ran.writes told in
-    (c.args.plan.now.time, subst (λ (file : List ℕ). IsSnapshot file bodies c.args.plan.now.time) (sym same) planned.snapshot)) in
-    rw handed_on cause
-
-pub returns-then-count-plan-clause-cause : goal.returns-then-count-plan-clause-cause
-returns-then-count-plan-clause-cause g c =
-    let m = g.H.Host.meaning in
     let plan = c.args.plan.now in
-    let reader = c.in_ok-reader.reader in
-    let Holds : List Body → Type 0 = λ bodies. IsPlanned plan bodies ((m.contents c.args.host.now).file init_file) in
-    let never : IsTrue m.tells → (bodies : List Body) → Holds bodies → ⊥ = λ told bodies planned.
+    let why = c.in_err-reader.field-0.0 in
+    let Few : List Body → Type 0 = λ bodies. IsPlanned plan bodies ((m.contents c.empty.new.host).file init_file) in
+    let More : List Body → Type 0 = λ bodies. IsPlanned plan bodies ((m.contents c.args.host.now).file init_file) in
+    let handed_on : c.from_residual-in_err-reader.result ≡ Err why = search rules in
+    let These : PageName → Type 0 = λ page. page ≡ place_of_body 0 in
+    let Those = IsReadPlace plan.census.count in
+    let cause : NeedsNoCause why ⊎ IsBroken m Those More why =
+    cause_more These Those Few More c.in_err-reader.ensures.cause (λ page at. inl at) (λ told bodies planned.
     let same = init_stays (read_only_none c.args.cache.now c.requires.written) c.empty.ensures.ran.writes told in
-    let there = subst (λ (file : List ℕ). IsSnapshot file bodies plan.time) (sym same) planned.snapshot in
-    let read = c.in_ok-reader.ensures.header told in
-    let few : count_of reader ≤ most_bodies = c.in_ok-reader.ensures.start.count in
-    let count = same_count read there in
-    let planned_count = ap (λ (x : Census). x.count) planned.census in
-    elim c.then-count-plan.branch [
-      | then-count-plan-via-then-count-plan w ↦ absurd (w.if-count-plan.true (c.count.ensures.value ∙ count ∙ sym planned_count))
-      | then-count-plan-via-else-count-plan+then-time-plan w ↦
-          let fits : time_of reader < 2 ^ 64 = subst (λ (n : ℕ). n < 2 ^ 64) w.time.ensures w.time.type_inv in
-          absurd (w.if-time-plan.true (w.time.ensures ∙ same_time fits few read there))
-    ] in
-    subst (λ (why : Refusal). NeedsNoCause why ⊎ IsBroken m IsReadFile Holds why) (sym c.damaged_init.ensures)
-    (inr (init_broken Holds 0 never))
+    subst (IsPlanned plan bodies) (sym same) planned) in
+    rw handed_on cause
 
 -- Where its bodies are copied.
 
@@ -74,7 +53,10 @@ returns-in_err-census-clause-cause g c =
     let More : List Body → Type 0 = λ bodies. IsPlanned plan bodies ((m.contents c.args.host.now).file init_file) in
     let reads = c.begin_again.ensures.ran.leads in
     let handed_on : c.from_residual-in_err-census.result ≡ Err why = search rules in
-    let cause : NeedsNoCause why ⊎ IsBroken m IsReadFile More why = cause_more Few More c.in_err-census.ensures.cause (λ told bodies planned.
+    let These = IsCopyEnd m c.in_ok-reader.reader c.empty.new.self c.begin_again.new.host in
+    let Those = IsReadPlace plan.census.count in
+    let cause : NeedsNoCause why ⊎ IsBroken m Those More why =
+    cause_more These Those Few More c.in_err-census.ensures.cause (end_read c.in_ok-reader.ensures.count) (λ told bodies planned.
     let same = init_again (read_only_none c.args.cache.now c.requires.written) c.empty.ensures.ran.writes reads told in (
       header_now (stays_contents reads) (c.in_ok-reader.ensures.header told),
       seen_still c.empty.new.self drifted_file reads ∙ c.in_ok-empty.ensures.view told,
@@ -105,8 +87,9 @@ returns-then-ne-clause-cause g c =
     (header_now (stays_contents reads) (c.in_ok-reader.ensures.header told))
     (seen_still c.empty.new.self drifted_file reads ∙ c.in_ok-empty.ensures.view told) in
     censuses_differ c.in_ok-census.census plan.census (census_same same planned copied.2 copied.1) c.if-ne.ensures in
-    subst (λ (why : Refusal). NeedsNoCause why ⊎ IsBroken m IsReadFile Holds why) (sym c.damaged_init-then-ne.ensures)
-    (inr (init_broken Holds 0 never))
+    let At = IsReadPlace plan.census.count in
+    subst (λ (why : Refusal). NeedsNoCause why ⊎ IsBroken m At Holds why) (sym c.damaged_init.ensures)
+    (inr (init_broken At Holds 0 (inl refl) never))
 
 pub returns-then-ne-clause-ran : goal.returns-then-ne-clause-ran
 returns-then-ne-clause-ran g c =
@@ -115,10 +98,13 @@ returns-then-ne-clause-ran g c =
     c.empty.ensures.ran (search rules) in
     let begun = went_on emptied (ran_reading files c.empty.new.self c.begin_again.ensures.ran c.empty.ensures.ran.writes.in_step)
     (search rules) in
-    let refused = c.damaged_init-then-ne.ensures in
+    let refused = c.damaged_init.ensures in
     went_as (went_on begun c.copy_bodies.ensures.ran (search rules)) (λ faulted. absurd (cc))
 
 -- Where it was read.
+
+pub returns-clause-same : goal.returns-clause-same
+returns-clause-same g c = censuses_same c.in_ok-census.census c.args.plan.now.census c.if-ne.ensures
 
 pub returns-clause-read : goal.returns-clause-read
 returns-clause-read g c = λ told bodies planned.

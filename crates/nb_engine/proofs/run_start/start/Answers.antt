@@ -1,5 +1,4 @@
 use Rattle.std.proofs.Common.{◌≡◌, ◌⊎◌, inl, inr, IsTrue, Err, refl, ap, ◌∙◌, rules}
-use Rattle.nb_cache.specs.View.{CacheValue}
 use Rattle.nb_engine.specs.declared.run_start.Plan.{Plan}
 use Rattle.nb_engine.specs.Refusal.{NeedsNoCause, of_host}
 use Rattle.nb_engine.specs.Start.{IsStartRefused}
@@ -67,7 +66,7 @@ returns-in_err-lay_bodies-clause-ran g c =
     let written = c.lay_bodies.ensures.ran in
     let made = made_of c.requires.durable c.in_ok-plan.ensures.ready planned.leads c.prepare.ensures.ran.leads
     c.prepare.ensures.images in
-    let laid = laid_of made (ap (λ (x : CacheValue). x.unwritten) c.in_ok-cache.ensures.value) written.writes in
+    let laid = laid_of made c.in_ok-cache.ensures.written written.writes in
     let prepared = session_well (search rules) (session_planned planned) c.prepare.ensures.ran (search rules) (made_leads made) in
     session_then refl prepared (session_cached written laid.leads (λ faulted. search rules) (λ fault. search rules))
     (laid_leads laid)
@@ -81,7 +80,7 @@ returns-in_err-start_gate-clause-ran g c =
     let gate = c.start_gate.ensures.ran in
     let made = made_of c.requires.durable c.in_ok-plan.ensures.ready planned.leads c.prepare.ensures.ran.leads
     c.prepare.ensures.images in
-    let laid = laid_of made (ap (λ (x : CacheValue). x.unwritten) c.in_ok-cache.ensures.value) written.writes in
+    let laid = laid_of made c.in_ok-cache.ensures.written written.writes in
     let images = gate_follows laid c.in_ok-ready.ensures.laid c.in_ok-ready.ensures.ready c.start_gate.ensures.images in
     let prepared = session_well (search rules) (session_planned planned) c.prepare.ensures.ran (search rules) (made_leads made) in
     let stands = session_well_cached refl prepared written (search rules) (laid_leads laid) in
@@ -107,7 +106,7 @@ pub returns-clause-begun : goal.returns-clause-begun
 returns-clause-begun g c = λ told.
     let made = made_of c.requires.durable c.in_ok-plan.ensures.ready c.plan_run.ensures.ran.leads c.prepare.ensures.ran.leads
     c.prepare.ensures.images in
-    let laid = laid_of made (ap (λ (x : CacheValue). x.unwritten) c.in_ok-cache.ensures.value) c.lay_bodies.ensures.ran.writes in
+    let laid = laid_of made c.in_ok-cache.ensures.written c.lay_bodies.ensures.ran.writes in
     let journal = gate_journal laid c.in_ok-ready.ensures.laid c.in_ok-ready.ensures.ready c.in_ok-start_gate.ensures.started in
     let opened = gate_opened laid c.in_ok-lay_bodies.ensures.laid c.start_gate.ensures.ran.leads journal told in (
       opened.0,
@@ -126,7 +125,7 @@ returns-clause-ran g c =
     let gate = c.start_gate.ensures.ran in
     let made = made_of c.requires.durable c.in_ok-plan.ensures.ready planned.leads c.prepare.ensures.ran.leads
     c.prepare.ensures.images in
-    let laid = laid_of made (ap (λ (x : CacheValue). x.unwritten) c.in_ok-cache.ensures.value) written.writes in
+    let laid = laid_of made c.in_ok-cache.ensures.written written.writes in
     let images = gate_follows laid c.in_ok-ready.ensures.laid c.in_ok-ready.ensures.ready c.start_gate.ensures.images in
     let prepared = session_well (search rules) (session_planned planned) c.prepare.ensures.ran (search rules) (made_leads made) in
     let stands = session_well_cached refl prepared written (search rules) (laid_leads laid) in

@@ -2,11 +2,10 @@ use Rattle.std.proofs.Common.{◌≡◌, ◌⊎◌, true, inr, Err, List, [], �
 use Rattle.nb_model.specs.declared.body.Body.{Body}
 use Rattle.nb_cache.specs.View.{seen}
 use Rattle.nb_tick.specs.Slots.{sorted_file}
-use Rattle.nb_engine.specs.Files.{IsPagedFile}
 use Rattle.nb_engine.specs.Refusal.{of_host, of_order, NeedsNoCause}
-use Rattle.nb_engine.specs.Snapshots.{HoldsByIds, IsBroken}
+use Rattle.nb_engine.specs.Snapshots.{HoldsByIds, IsEnd, IsBroken}
 use Rattle.nb_engine.proofs.Frames.{session_ran, session_cached, session_by, session_ended}
-use Rattle.nb_engine.proofs.SnapshotSteps.{order_rose, order_fell, host_rose, host_fell, order_cause, none_but, settled_leads, sorted_agrees, file_agrees, well_then, is_ok, adding_none, adding_read, unfinished_read, read_there, not_behind, no_body, adding_file, adding_added, unfinished_added, all_added}
+use Rattle.nb_engine.proofs.SnapshotSteps.{order_rose, order_fell, host_rose, host_fell, order_cause, none_but, settled_leads, sorted_agrees, file_agrees, well_then, is_ok, adding_none, adding_read, unfinished_read, read_there, record_there, not_behind, no_body, adding_file, adding_added, unfinished_added, all_added}
 use Rattle.nb_engine.proofs.snapshot.add_bodies.Goals as goal
 
 pub loop-index-init : goal.loop-index-init
@@ -29,9 +28,10 @@ returns-in_err-body-clause-cause g c =
     let error = c.in_err-body.field-0.0 in
     let Holds = λ (bodies : List Body). HoldsByIds c.args.count bodies (seen m c.args.cache.now c.args.host.now sorted_file) in
     let handed_on : c.from_residual.result ≡ Err (of_order error) = search rules in
-    let why : NeedsNoCause (of_order error) ⊎ IsBroken m IsPagedFile Holds (of_order error) =
+    let At = IsEnd m c.args.count c.args.cache.now c.args.host.now in
+    let why : NeedsNoCause (of_order error) ⊎ IsBroken m At Holds (of_order error) =
     order_cause error (λ name is.
-    subst (IsBroken m IsPagedFile Holds) (sym (ap of_order is))
+    subst (IsBroken m At Holds) (sym (ap of_order is))
     (no_body c.loop-index.invariant c.loop-index-test.true name (c.body_at.ensures.damaged name (c.in_err-body.was ∙ ap Err is)))) in
     rw handed_on why
 
@@ -56,8 +56,9 @@ returns-then-not-comes_behind-clause-refused g c =
 pub returns-then-not-comes_behind-clause-cause : goal.returns-then-not-comes_behind-clause-cause
 returns-then-not-comes_behind-clause-cause g c =
     let body = c.in_ok-body.body in
-    inr (not_behind body c.loop-index.invariant
+    inr (not_behind body c.loop-index.invariant c.loop-index-test.true
     (read_there body c.loop-index.invariant c.in_ok-body.ensures.listed)
+    (record_there body c.loop-index.invariant c.in_ok-body.ensures.read)
     (λ above. let yes : c.comes_behind.result ≡ true = c.comes_behind.ensures.1 above in absurd (cc))
     _ c.page_name.result refl c.page_name.ensures.value)
 
@@ -103,13 +104,17 @@ loop-index-preserved g c =
     let body = c.in_ok-body.body in
     let read = adding_read c.requires.file c.loop-index.invariant c.body_at.ensures.ran (search rules) in
     let there = read_there body c.loop-index.invariant c.in_ok-body.ensures.listed in
-    adding_added body c.requires.file read there c.in_ok-filling.ensures.added c.in_ok-filling.ensures.filled
+    let record_is = record_there body c.loop-index.invariant c.in_ok-body.ensures.read in
+    adding_added body c.requires.file read there record_is c.in_ok-filling.ensures.added c.in_ok-filling.ensures.filled
     c.add.ensures.ran (search rules)
 
 -- where all are
 
 pub returns-clause-settled : goal.returns-clause-settled
 returns-clause-settled g c = c.loop-index.invariant.settled
+
+pub returns-clause-pages : goal.returns-clause-pages
+returns-clause-pages g c = c.loop-index.invariant.pages
 
 pub returns-clause-full : goal.returns-clause-full
 returns-clause-full g c =

@@ -2,10 +2,9 @@ use Rattle.std.proofs.Common.{◌≡◌, ◌⊎◌, inl, inr, Err, refl, sym, ap
 use Rattle.std.proofs.lemmas.Bool.{false≢true}
 use Rattle.std.proofs.lemmas.Result.{on_ok_weaker, IfErr-weaker}
 use Rattle.nb_host.proofs.Callers.{leads_none}
-use Rattle.nb_engine.specs.Files.{IsPagedFile}
 use Rattle.nb_engine.specs.Refusal.{NeedsNoCause, of_host}
 use Rattle.nb_engine.specs.Represents.{snap_of}
-use Rattle.nb_engine.specs.Snapshots.{snapshot_files, IsBroken}
+use Rattle.nb_engine.specs.Snapshots.{snapshot_files, IsSnapshotPage, IsBroken}
 use Rattle.nb_engine.specs.Steps.{IsSpoilt}
 use Rattle.nb_engine.proofs.Frames.{session_ran, session_by}
 use Rattle.nb_engine.proofs.SnapshotSteps.{host_rose, host_fell, stays_agrees, well_ran, well_then, is_ok, finished_at, SlotHolds}
@@ -98,7 +97,7 @@ returns-clause-cause g c =
     let m = g.H.Host.meaning in
     let journal = c.args.journal.now in
     IfErr-weaker c.write_snapshot.result
-    (λ why. NeedsNoCause why ⊎ IsBroken m IsPagedFile (SlotHolds m journal c.snap_finished.new.host) why)
+    (λ why. NeedsNoCause why ⊎ IsBroken m (IsSnapshotPage journal.progress.ticks) (SlotHolds m journal c.snap_finished.new.host) why)
     (λ why. NeedsNoCause why ⊎ IsSpoilt m journal c.args.host.now why)
     (spoilt c.snap_finished.ensures.ran.leads) c.write_snapshot.ensures.cause
 

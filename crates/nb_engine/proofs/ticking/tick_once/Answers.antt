@@ -1,14 +1,13 @@
-use Rattle.std.proofs.Common.{◌≡◌, ◌⊎◌, ◌+◌, inl, suc, Err, Ok, Result, refl, sym, ap, subst, ◌∙◌, arith, rules}
+use Rattle.std.proofs.Common.{◌≡◌, ◌⊎◌, ◌+◌, inl, suc, Err, Ok, Result, refl, ap, ◌∙◌, arith, rules}
 use Rattle.nb_journal.specs.declared.entry.Entry.TheVariants.{Tick}
 use Rattle.nb_journal.specs.Counters.{counters_after}
-use Rattle.nb_engine.specs.Files.{IsPagedFile}
 use Rattle.nb_engine.specs.Frame.{KeepsApart, RanSession}
 use Rattle.nb_engine.specs.declared.refusal.Refusal.{Refusal}
 use Rattle.nb_engine.specs.Refusal.{NeedsNoCause, of_host}
 use Rattle.nb_engine.specs.Steps.{IsSpoilt}
 use Rattle.nb_host.specs.declared.host.Channel.TheVariants as channels
 use Rattle.nb_engine.proofs.EachImages.{durable_said}
-use Rattle.nb_engine.proofs.Filling.{host_handed, ok_handed, host_cause, slot_paged}
+use Rattle.nb_engine.proofs.Filling.{host_handed, ok_handed, host_cause}
 use Rattle.nb_engine.proofs.TickImages.{filled_images, entry_images, line_images, played_one, state_after, fewer_spoilt, settled_entry, settled_line, fill_frame, same_frame, entry_frame, line_frame, fewer_frame}
 use Rattle.nb_engine.proofs.ticking.tick_once.Goals as goal
 
@@ -17,7 +16,7 @@ append-requires g c = record {
   next = record {
     leg = c.requires.leg;
     next = omega (arith, c.ticks-ticks.ensures);
-    no_fewer = omega (arith, c.gone.ensures, c.if-gone.false);
+    no_fewer = c.in_ok-keep_gone.ensures.kept;
     no_more = c.in_ok-gone.ensures.most;
   };
 }
@@ -35,19 +34,25 @@ returns-in_err-gone-clause-ran g c =
 
 -- Where fewer bodies are out than the journal tells.
 
-pub returns-then-gone-clause-images : goal.returns-then-gone-clause-images
-returns-then-gone-clause-images g c = λ h at up.
+pub returns-in_err-keep_gone-clause-images : goal.returns-in_err-keep_gone-clause-images
+returns-in_err-keep_gone-clause-images g c = λ h at up.
     filled_images g.H.Host.meaning c.args.journal c.args.host.now c.fill.new.host c.fill.ensures.ran.leads h at
 
-pub returns-then-gone-clause-cause : goal.returns-then-gone-clause-cause
-returns-then-gone-clause-cause g c =
-    fewer_spoilt g.H.Host.meaning c.args.journal c.args.host.now c.fill.new.host c.in_ok-gone.gone c.gone.result
-    (record { file = c.file.result; page = 0 })
-    (subst IsPagedFile (sym c.file.ensures) (slot_paged c.of.result)) c.gone.ensures c.if-gone.true c.in_ok-gone.ensures.next
+pub returns-in_err-keep_gone-clause-cause : goal.returns-in_err-keep_gone-clause-cause
+returns-in_err-keep_gone-clause-cause g c =
+    let error = c.in_err-keep_gone.field-0.0 in
+    let handed_on : c.from_residual-in_err-keep_gone.result ≡ Err error = search rules in
+    let why : NeedsNoCause error ⊎ IsSpoilt g.H.Host.meaning c.args.journal c.args.host.now error =
+    fewer_spoilt g.H.Host.meaning c.args.journal c.args.host.now c.fill.new.host c.in_ok-gone.gone error
+    c.in_err-keep_gone.ensures.fewer c.in_ok-gone.ensures.next in
+    rw handed_on why
 
-pub returns-then-gone-clause-ran : goal.returns-then-gone-clause-ran
-returns-then-gone-clause-ran g c =
-    fewer_frame c.args.journal.progress.ticks (record { file = c.file.result; page = 0 }) c.fill.ensures.ran (search rules) refl
+pub returns-in_err-keep_gone-clause-ran : goal.returns-in_err-keep_gone-clause-ran
+returns-in_err-keep_gone-clause-ran g c =
+    let error = c.in_err-keep_gone.field-0.0 in
+    let handed_on : c.from_residual-in_err-keep_gone.result ≡ Err error = search rules in
+    fewer_frame c.args.journal.progress.ticks _ c.fill.ensures.ran (search rules)
+    (handed_on ∙ ap Err c.in_err-keep_gone.ensures.fewer.1)
 
 -- Where the entry was refused.
 

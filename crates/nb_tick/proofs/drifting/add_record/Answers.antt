@@ -2,7 +2,7 @@ use Rattle.std.proofs.Common.{◌≡◌, [], ◌∷◌, Err, ap, ◌∙◌, rule
 use Rattle.nb_model.specs.Vector.{zero_vector}
 use Rattle.nb_order.specs.declared.order_error.OrderError.TheVariants as order
 use Rattle.nb_tick.specs.Errors.{of_order}
-use Rattle.nb_tick.specs.Steps.{bodies_of, resting_one}
+use Rattle.nb_tick.specs.Steps.{without_kicks, resting_one}
 use Rattle.nb_tick.proofs.Calls.{among_none, among_all, went_none, went_on, went_to, went_well}
 use Rattle.nb_tick.proofs.Lists.{same_body}
 use Rattle.nb_tick.proofs.Refusing.{order_fault, order_damaged}
@@ -50,5 +50,5 @@ pub returns-clause-copied : goal.returns-clause-copied
 returns-clause-copied g c =
     copied_one g.H.Host.meaning resting_one c.args.from c.body_at.ensures.ran.writes c.in_ok-add.ensures.added
     (λ tells bodies holds k at.
-    let same = same_body bodies c.args.index k c.in_ok-body.body at (c.in_ok-body.ensures.listed tells (bodies_of bodies) holds.bodies) in
+    let same = same_body bodies c.args.index k c.in_ok-body.body at (c.in_ok-body.ensures.listed tells (without_kicks bodies) holds.bodies) in
     λ t. record { body = same t; kick = zero_vector })
