@@ -7,13 +7,37 @@
 #   rest     of a visit without its pulls, the difference of these two over the visits; and the walk over its pulls alone
 #   light    of the walk under so weak a gravity that each pull is 0 at once
 #   course   of a course, which only hands out its terms: its steps are those pages, and the bodies of leaves one by one
+# and then, for one of 16 times 64 neighbours in Morton order:
+#   block    the pulls of its terms alone
+#   alone    a walk, as above, and how many times its pulls that is
+#   pool     the same of pools of 64 walks each: how many pages of chains are looked at for one of them, how many it meets, and the
+#            nanoseconds of each, with its pulls; how many times the pulls alone, and of a walk alone, that is
 # It builds a small proved program over this checkout's crates in a temporary folder, and leaves nothing.
 set -eu
 . "$(dirname "$0")/small_program.sh"
 . "$(dirname "$0")/generated_bodies.sh"
 stand_on nb_model nb_fixed nb_key nb_host nb_record nb_cache nb_order nb_cell nb_tree nb_walk nb_force
 write_generated
-mkdir -p "$bench/proofs/run_walk" "$bench/proofs/measure"
+mkdir -p "$bench/proofs/run_walk" "$bench/proofs/measure" "$bench/proofs/begin" "$bench/proofs/run_pool"
+cat >"$bench/proofs/begin/Answers.antt" <<'ANSWERS'
+use Rattle.std.proofs.Common.{sym, subst}
+use Rattle.nb_walk.specs.Pool.{AreInRange}
+use Rattle.nb_walk.proofs.Callers.{begun_range}
+use Rattle.bench.proofs.begin.Goals as goal
+
+pub returns-then-len-walks : goal.returns-then-len-walks
+returns-then-len-walks c = record {
+  range = subst (λ v. AreInRange c.args.params.now v.walks) (sym c.begin.ensures)
+      (begun_range c.args.params.now c.args.target.now.at c.args.pool.now.walks c.requires.range);
+}
+ANSWERS
+cat >"$bench/proofs/run_pool/Invariants.antt" <<'INVARIANTS'
+use Rattle.nb_walk.specs.Pool.{AreInRange}
+use Rattle.bench.proofs.run_pool.Given as goal
+
+abbrev pub invariant-loop-target : goal.invariant-loop-target
+invariant-loop-target g l = AreInRange l.wood.params l.pool.walks
+INVARIANTS
 cat >"$bench/proofs/run_walk/Invariants.antt" <<'INVARIANTS'
 use Rattle.nb_walk.specs.Walk.{IsInRange}
 use Rattle.bench.proofs.run_walk.Given as goal
@@ -36,6 +60,8 @@ ghost use Rattle.nb_model.specs.Limits.{gm_limit};
 ghost use Rattle.nb_model.specs.Valid.{AreInRange, IsInBox};
 ghost use Rattle.nb_cache.specs.InStep.{IsInStep};
 ghost use Rattle.nb_walk.specs.Angle.{by_angle};
+ghost use Rattle.nb_walk.specs.Pool.{AreInRange as AllInRange};
+ghost use Rattle.nb_cache.specs.View.{shown};
 
 mod generated;
 
@@ -46,9 +72,9 @@ use nb_force::Window;
 use nb_host::{Host, MemoryHost};
 use nb_key::Key;
 use nb_model::{At, Params, V3};
-use nb_record::{BODIES_PER_PAGE, CellView, Lender, Tree};
+use nb_record::{BODIES_PER_PAGE, BodyPage, CellPage, CellView, Lender, PageError, Tree};
 use nb_tree::{Builder, build};
-use nb_walk::{ByAngle, Course, Opening, Step, Term, Visit, Walk};
+use nb_walk::{ByAngle, Course, Opening, Pool, Step, Term, Visit, Walk};
 use std::alloc::Global;
 use std::test::Fail;
 use std::time::Instant;
@@ -59,6 +85,10 @@ const CELLS: u64 = 7;
 const ALL_PAGES: usize = 16384;
 /// So many bodies are walked for.
 const TARGETS: u64 = 1000;
+/// So many walks share a pool.
+const WALKS: usize = 64;
+/// For so many pools bodies are taken, at like distances in Morton order.
+const POOLS: u64 = 16;
 /// No walk has so many visits.
 const MOST_VISITS: u64 = 1 << 32;
 /// Each time is the least of so many.
@@ -128,6 +158,45 @@ fn targets(alloc: Global, window: &Window<'_>, count: u64) -> Result<Vec<Target>
         }
     }
     Ok(targets)
+}
+
+/// The bodies that so many pools walk to: neighbours in Morton order for each.
+fn blocks(alloc: Global, window: &Window<'_>, count: u64) -> Result<Vec<Target>, Fail>
+    requires few { count ≤ 100000 }
+{
+    let mut targets = Vec::new(alloc);
+    for pool in 0..POOLS {
+        for walk in 0..WALKS as u64 {
+            if let Some(target) = find(window, pool * count / POOLS + walk) {
+                targets.push(target)?;
+            }
+        }
+    }
+    Ok(targets)
+}
+
+/// A window that counts the looks at pages of cells.
+#[derive(Clone, Copy)]
+struct Seen<'a> {
+    window: &'a Window<'a>,
+    looks: &'a cell::Cell<u64>,
+}
+
+impl Lender for Seen<'_> {
+    ghost cells = { λ s page.
+        shown s.window.now.cache.now.held (record { file = s.window.now.cells; page = page }) };
+
+    ghost bodies = { λ s page.
+        shown s.window.now.cache.now.held (record { file = s.window.now.bodies; page = page }) };
+
+    fn cell_page(&self, page: u64) -> Option<Result<CellPage<'_>, PageError>> {
+        self.looks.set(self.looks.get().wrapping_add(1));
+        self.window.cell_page(page)
+    }
+
+    fn body_page(&self, page: u64) -> Option<Result<BodyPage<'_>, PageError>> {
+        self.window.body_page(page)
+    }
 }
 
 /// The opening angle; it counts the keys of a cell's chain up to the cell's.
@@ -289,6 +358,57 @@ fn run_walk(wood: &Wood, window: &Window<'_>, target: &Target) -> Walked {
     }
 }
 
+/// Begins a walk where there is room for one more.
+fn begin(pool: &mut Pool, params: &Params, target: &Target)
+    requires range { AllInRange params.now pool.old.walks }
+    ensures range { AllInRange params.now pool.new.walks }
+{
+    if pool.len() < pool.walks() {
+        pool.begin(target.at);
+    }
+}
+
+/// Has the walks of a pool go on to their ends, and tells whether they came there, with the sum of their pulls.
+fn end_walks<L: Lender>(wood: &Wood, lender: &L, pool: &mut Pool, sum: &mut V3) -> bool
+    requires range { AllInRange wood.now.params pool.old.walks }
+    ensures range { AllInRange wood.now.params pool.new.walks }
+{
+    let done = pool.advance(&wood.params, &wood.tree, lender) == Ok(true);
+    for i in 0..pool.len() {
+        add(sum, &pool.sum(i));
+    }
+    pool.clear();
+    done
+}
+
+/// Adds a vector to another.
+fn add(sum: &mut V3, more: &V3) {
+    sum.x = sum.x.wrapping_add(more.x);
+    sum.y = sum.y.wrapping_add(more.y);
+    sum.z = sum.z.wrapping_add(more.z);
+}
+
+/// The sum of all pulls on targets, to which a pool walks in turns of as many as it has room for.
+fn run_pool<L: Lender>(
+    wood: &Wood,
+    lender: &L,
+    pool: &mut Pool,
+    targets: &[Target],
+) -> Option<V3> {
+    let mut sum = V3 { x: 0, y: 0, z: 0 };
+    pool.clear();
+    for target in targets {
+        if pool.len() == pool.walks() && !end_walks(wood, lender, pool, &mut sum) {
+            return None;
+        }
+        begin(pool, &wood.params, target);
+    }
+    if !end_walks(wood, lender, pool, &mut sum) {
+        return None;
+    }
+    Some(sum)
+}
+
 /// The pulls of masses on a target, under parameters with the unit of gravity.
 fn run_pulls(params: &Params, target: &Target, masses: &[Mass]) -> V3
     requires params { AreInRange params.now }
@@ -297,9 +417,7 @@ fn run_pulls(params: &Params, target: &Target, masses: &[Mass]) -> V3
     let mut sum = V3 { x: 0, y: 0, z: 0 };
     for mass in masses {
         let more = pull(params, &target.at, mass.gm, &mass.centre);
-        sum.x = sum.x.wrapping_add(more.x);
-        sum.y = sum.y.wrapping_add(more.y);
-        sum.z = sum.z.wrapping_add(more.z);
+        add(&mut sum, &more);
     }
     sum
 }
@@ -348,11 +466,12 @@ struct Timed {
     done: u64,
 }
 
-/// The most that is wanted: nanoseconds of a visit without its pull, and of a walk over its pulls.
+/// The most that is wanted: nanoseconds of a visit without its pull, of a walk over its pulls, and of a pool over walks alone.
 #[derive(Clone, Copy)]
 struct Wanted {
     rest: u64,
     whole: &'static str,
+    pool: &'static str,
 }
 
 /// What is measured at one size.
@@ -462,6 +581,36 @@ impl Bench<'_> {
         Ok(Timed { nanos: least, done })
     }
 
+    /// The least time of pools, and how many pages of chains they look at. Each sum has to be that of the walks alone.
+    fn time_pools(&self, rt: &HostRuntime) -> Result<Timed, Fail> {
+        let looks = cell::Cell::new(0u64);
+        let seen = Seen {
+            window: self.window,
+            looks: &looks,
+        };
+        let mut pool = Pool::new(rt.alloc(), WALKS)?;
+        let mut sum = V3 { x: 0, y: 0, z: 0 };
+        for target in &self.targets {
+            add(&mut sum, &run_walk(&self.wood, self.window, target).sum);
+        }
+        if run_pool(&self.wood, &seen, &mut pool, &self.targets) != Some(sum) {
+            return Err(Fail::new("a pool's pulls aren't the walks'"));
+        }
+        let mut least = u128::MAX;
+        for _ in 0..TRIES {
+            let start = Instant::now(rt)?;
+            let pulls = run_pool(&self.wood, self.window, &mut pool, &self.targets);
+            least = least.min(start.elapsed(rt)?.as_nanos());
+            if pulls != Some(sum) {
+                return Err(Fail::new("a pool's pulls aren't the walks'"));
+            }
+        }
+        Ok(Timed {
+            nanos: least,
+            done: looks.get(),
+        })
+    }
+
     fn print(
         &self,
         rt: &HostRuntime,
@@ -492,6 +641,7 @@ impl Bench<'_> {
         let Wanted {
             rest: most_rest,
             whole: most_whole,
+            ..
         } = wanted;
         println!(rt;
             "rest {count} bodies: {rest} ns a visit without its pull, of {most_rest} at most; {whole} times the pulls, of {most_whole} at most"
@@ -517,6 +667,28 @@ impl Bench<'_> {
             self.time_walks(rt, &self.light)?,
         )?;
         self.print(rt, "course", count, "steps", self.time_courses(rt)?)
+    }
+
+    /// Prints what pools of many walks take, beside these walks one by one.
+    fn run_blocks(&self, rt: &HostRuntime, count: u64, whole: &str) -> Result<(), Fail> {
+        let pulls = self.time_pulls(rt)?;
+        self.print(rt, "block", count, "terms", pulls)?;
+        let walks = self.time_walks(rt, &self.wood)?;
+        let alone = Quotient::of(walks.nanos, u128::from(walks.done));
+        let times = Quotient::of(walks.nanos, pulls.nanos);
+        let body = Quotient::of(walks.nanos, self.targets.len() as u128);
+        let visits = self.each(walks.done);
+        println!(rt; "alone {count} bodies: {body} ns, {visits} met, {alone} ns each; {times} times the pulls")?;
+        let pools = self.time_pools(rt)?;
+        let body = Quotient::of(pools.nanos, self.targets.len() as u128);
+        let looks = self.each(pools.done);
+        let each = Quotient::of(pools.nanos, u128::from(walks.done));
+        let times = Quotient::of(pools.nanos, pulls.nanos);
+        let gain = Quotient::of(pools.nanos, walks.nanos);
+        println!(rt;
+            "pool {count} bodies: {body} ns, {looks} looks, {visits} met, {each} ns each; {times} times the pulls, {gain} times the walks alone, of {whole} at most"
+        )?;
+        Ok(())
     }
 }
 
@@ -545,20 +717,25 @@ fn measure(rt: &HostRuntime, count: u64, wanted: Wanted) -> Result<(), Fail>
         light,
         targets,
     };
-    bench.run(rt, count, wanted)
+    bench.run(rt, count, wanted)?;
+    let targets = blocks(rt.alloc(), &window, count)?;
+    let bench = Bench { targets, ..bench };
+    bench.run_blocks(rt, count, wanted.pool)
 }
 
 fn main(rt: HostRuntime) -> Result<(), Fail> {
     let small = Wanted {
         rest: 60,
         whole: "1.6",
+        pool: "0.50",
     };
     let large = Wanted {
         rest: 110,
         whole: "2.2",
+        pool: "0.40",
     };
     measure(&rt, 10_000, small)?;
     measure(&rt, 100_000, large)
 }
 PROGRAM
-run_bench 'counts|pulls|walk|rest|light|course'
+run_bench 'counts|pulls|walk|rest|light|course|block|alone|pool'
