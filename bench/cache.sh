@@ -21,11 +21,11 @@ keep_in_step() {
     mkdir -p "$bench/proofs/$1"
     cat >"$bench/proofs/$1/Invariants.antt" <<INVARIANTS
 use Rattle.nb_host.specs.Memory.{contents_of}
-use Rattle.nb_cache.specs.InStep.{Fits}
+use Rattle.nb_cache.specs.InStep.{IsCoherent}
 use Rattle.bench.proofs.$(echo "$1" | tr / .).Given as goal
 
 abbrev pub invariant-loop$2 : goal.invariant-loop$2
-invariant-loop$2 l = Fits l.$3.cache (contents_of l.$3.host)
+invariant-loop$2 l = IsCoherent l.$3.cache (contents_of l.$3.host)
 INVARIANTS
 }
 mkdir -p "$bench/proofs/read_back" "$bench/proofs/measure_pushes"
@@ -110,7 +110,7 @@ cat >"$bench/src/main.rt" <<'PROGRAM'
 
 ghost use Rattle.std.specs.Prelude.{◌≡◌, ◌^◌, ◌<◌, ◌≤◌, IfOk};
 ghost use Rattle.nb_host.specs.Memory.{contents_of};
-ghost use Rattle.nb_cache.specs.InStep.{Fits, IsInStep};
+ghost use Rattle.nb_cache.specs.InStep.{IsCoherent, IsInStep};
 ghost use Rattle.bench.specs.Rising.{Rises, Rises-prop};
 
 mod generated;
@@ -326,7 +326,7 @@ impl Storage {
     fn new(alloc: Global, pages: u32) -> Result<Storage, Fail>
         requires least { 4 ≤ pages }
         requires most { pages ≤ 2 ^ 18 }
-        ensures { IfOk result (λ s. Fits s.cache (contents_of s.host)) }
+        ensures { IfOk result (λ s. IsCoherent s.cache (contents_of s.host)) }
     {
         let mut host = MemoryHost::new(alloc);
         host.with_file(FILE, &bytes_of(alloc, 2 * pages)?)?;
@@ -342,8 +342,8 @@ impl Storage {
 
     /// Fetches a page and looks it up.
     fn fetch(&mut self, page: u32) -> Option<u64>
-        requires { Fits self.old.cache (contents_of self.old.host) }
-        ensures { Fits self.new.cache (contents_of self.new.host) }
+        requires { IsCoherent self.old.cache (contents_of self.old.host) }
+        ensures { IsCoherent self.new.cache (contents_of self.new.host) }
     {
         let name = name_of(page);
         self.cache.fetch(&mut self.host, &[name]).ok()?;
@@ -352,8 +352,8 @@ impl Storage {
 
     /// Fetches the pages of a group, looks them up, and answers the sum of their first bytes.
     fn fetch_group(&mut self, group: &Group) -> Option<u64>
-        requires { Fits self.old.cache (contents_of self.old.host) }
-        ensures { Fits self.new.cache (contents_of self.new.host) }
+        requires { IsCoherent self.old.cache (contents_of self.old.host) }
+        ensures { IsCoherent self.new.cache (contents_of self.new.host) }
     {
         if group.names.len() > self.cache.pages() {
             return None;
@@ -375,8 +375,8 @@ impl Storage {
     }
 
     fn fetch_all(&mut self, pages: &[u32]) -> Option<u64>
-        requires { Fits self.old.cache (contents_of self.old.host) }
-        ensures { Fits self.new.cache (contents_of self.new.host) }
+        requires { IsCoherent self.old.cache (contents_of self.old.host) }
+        ensures { IsCoherent self.new.cache (contents_of self.new.host) }
     {
         let mut sum = 0u64;
         for page in pages {
@@ -386,8 +386,8 @@ impl Storage {
     }
 
     fn fetch_groups(&mut self, groups: &[Group]) -> Option<u64>
-        requires { Fits self.old.cache (contents_of self.old.host) }
-        ensures { Fits self.new.cache (contents_of self.new.host) }
+        requires { IsCoherent self.old.cache (contents_of self.old.host) }
+        ensures { IsCoherent self.new.cache (contents_of self.new.host) }
     {
         let mut sum = 0u64;
         for group in groups {
@@ -398,8 +398,8 @@ impl Storage {
 
     /// Does the work, and answers the sum of the first bytes of all pages that were looked up.
     fn run(&mut self, work: &Work) -> Option<u64>
-        requires { Fits self.old.cache (contents_of self.old.host) }
-        ensures { Fits self.new.cache (contents_of self.new.host) }
+        requires { IsCoherent self.old.cache (contents_of self.old.host) }
+        ensures { IsCoherent self.new.cache (contents_of self.new.host) }
     {
         match work {
             Work::LookUps(pages) => self.look_all_up(pages),
@@ -418,8 +418,8 @@ struct Try {
 }
 
 fn try_once(rt: &HostRuntime, storage: &mut Storage, work: &Work) -> Result<Try, Fail>
-    requires { Fits storage.old.cache (contents_of storage.old.host) }
-    ensures { Fits storage.new.cache (contents_of storage.new.host) }
+    requires { IsCoherent storage.old.cache (contents_of storage.old.host) }
+    ensures { IsCoherent storage.new.cache (contents_of storage.new.host) }
 {
     let before = storage.host.reads();
     let start = Instant::now(rt)?;
@@ -433,8 +433,8 @@ fn try_once(rt: &HostRuntime, storage: &mut Storage, work: &Work) -> Result<Try,
 fn time(rt: &HostRuntime, storage: &mut Storage, pattern: Pattern, pages: u32) -> Result<(), Fail>
     requires least { 4 ≤ pages }
     requires most { pages ≤ 2 ^ 18 }
-    requires in_step { Fits storage.old.cache (contents_of storage.old.host) }
-    ensures { Fits storage.new.cache (contents_of storage.new.host) }
+    requires in_step { IsCoherent storage.old.cache (contents_of storage.old.host) }
+    ensures { IsCoherent storage.new.cache (contents_of storage.new.host) }
 {
     let alloc = rt.alloc();
     let mut random = Random { state: SEED };
@@ -476,8 +476,8 @@ fn tell(rt: &HostRuntime, pattern: Pattern, pages: u32, all: &Try) -> Result<(),
 
 /// Fetches the first pages of the file.
 fn fill(storage: &mut Storage, pages: u32) -> Result<(), Fail>
-    requires { Fits storage.old.cache (contents_of storage.old.host) }
-    ensures { Fits storage.new.cache (contents_of storage.new.host) }
+    requires { IsCoherent storage.old.cache (contents_of storage.old.host) }
+    ensures { IsCoherent storage.new.cache (contents_of storage.new.host) }
 {
     for page in 0..pages {
         storage.fetch(page).ok_or("a page isn't fetched")?;

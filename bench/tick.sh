@@ -27,7 +27,7 @@ cat >"$bench/src/main.rt" <<'PROGRAM'
 ghost use Rattle.std.specs.Prelude.{◌≡◌, ◌≤◌, ◌^◌, [], OnOk};
 ghost use Rattle.nb_model.specs.Valid.{AreInRange};
 ghost use Rattle.nb_host.specs.Memory.{contents_of};
-ghost use Rattle.nb_cache.specs.InStep.{Fits};
+ghost use Rattle.nb_cache.specs.InStep.{IsCoherent};
 
 mod generated;
 
@@ -68,9 +68,9 @@ fn time_tick(
     requires few { count ≤ 100000 }
     requires params { AreInRange params.now }
     requires unwritten { cache.old.unwritten ≡ [] }
-    requires in_step { Fits cache.old (contents_of host.old) }
+    requires in_step { IsCoherent cache.old (contents_of host.old) }
     ensures unwritten { OnOk result (cache.new.unwritten ≡ []) }
-    ensures in_step { Fits cache.new (contents_of host.new) }
+    ensures in_step { IsCoherent cache.new (contents_of host.new) }
 {
     let mut sorter = Sorter::new(rt.alloc());
     let mut builder = Builder::new(rt.alloc());

@@ -21,29 +21,29 @@ write_generated
 mkdir -p "$bench/proofs/run_walk" "$bench/proofs/measure" "$bench/proofs/begin" "$bench/proofs/run_pool"
 cat >"$bench/proofs/begin/Answers.antt" <<'ANSWERS'
 use Rattle.std.proofs.Common.{sym, subst}
-use Rattle.nb_walk.specs.Pool.{AreInRange}
+use Rattle.nb_walk.specs.Pool.{AreSumsInRange}
 use Rattle.nb_walk.proofs.Callers.{begun_range}
 use Rattle.bench.proofs.begin.Goals as goal
 
 pub returns-then-len-walks : goal.returns-then-len-walks
 returns-then-len-walks c = record {
-  range = subst (λ v. AreInRange c.args.params.now v.walks) (sym c.begin.ensures)
+  range = subst (λ v. AreSumsInRange c.args.params.now v.walks) (sym c.begin.ensures)
       (begun_range c.args.params.now c.args.target.now.at c.args.pool.now.walks c.requires.range);
 }
 ANSWERS
 cat >"$bench/proofs/run_pool/Invariants.antt" <<'INVARIANTS'
-use Rattle.nb_walk.specs.Pool.{AreInRange}
+use Rattle.nb_walk.specs.Pool.{AreSumsInRange}
 use Rattle.bench.proofs.run_pool.Given as goal
 
 abbrev pub invariant-loop-target : goal.invariant-loop-target
-invariant-loop-target g l = AreInRange l.wood.params l.pool.walks
+invariant-loop-target g l = AreSumsInRange l.wood.params l.pool.walks
 INVARIANTS
 cat >"$bench/proofs/run_walk/Invariants.antt" <<'INVARIANTS'
-use Rattle.nb_walk.specs.Walk.{IsInRange}
+use Rattle.nb_walk.specs.Walk.{IsSumInRange}
 use Rattle.bench.proofs.run_walk.Given as goal
 
 abbrev pub invariant-loop : goal.invariant-loop
-invariant-loop l = IsInRange l.wood.params l.walk
+invariant-loop l = IsSumInRange l.wood.params l.walk
 INVARIANTS
 cat >"$bench/proofs/measure/Answers.antt" <<'ANSWERS'
 use Rattle.bench.proofs.measure.Goals as goal
@@ -60,8 +60,8 @@ ghost use Rattle.nb_model.specs.Limits.{gm_limit};
 ghost use Rattle.nb_model.specs.Valid.{AreInRange, IsInBox};
 ghost use Rattle.nb_cache.specs.InStep.{IsInStep};
 ghost use Rattle.nb_walk.specs.Angle.{by_angle};
-ghost use Rattle.nb_walk.specs.Pool.{AreInRange as AllInRange};
-ghost use Rattle.nb_cache.specs.View.{shown};
+ghost use Rattle.nb_walk.specs.Pool.{AreSumsInRange};
+ghost use Rattle.nb_cache.specs.View.{resident_bytes};
 
 mod generated;
 
@@ -184,10 +184,10 @@ struct Seen<'a> {
 
 impl Lender for Seen<'_> {
     ghost cells = { λ s page.
-        shown s.window.now.cache.now.held (record { file = s.window.now.cells; page = page }) };
+        resident_bytes s.window.now.cache.now.held (record { file = s.window.now.cells; page = page }) };
 
     ghost bodies = { λ s page.
-        shown s.window.now.cache.now.held (record { file = s.window.now.bodies; page = page }) };
+        resident_bytes s.window.now.cache.now.held (record { file = s.window.now.bodies; page = page }) };
 
     fn cell_page(&self, page: u64) -> Option<Result<CellPage<'_>, PageError>> {
         self.looks.set(self.looks.get().wrapping_add(1));
@@ -360,8 +360,8 @@ fn run_walk(wood: &Wood, window: &Window<'_>, target: &Target) -> Walked {
 
 /// Begins a walk where there is room for one more.
 fn begin(pool: &mut Pool, params: &Params, target: &Target)
-    requires range { AllInRange params.now pool.old.walks }
-    ensures range { AllInRange params.now pool.new.walks }
+    requires range { AreSumsInRange params.now pool.old.walks }
+    ensures range { AreSumsInRange params.now pool.new.walks }
 {
     if pool.len() < pool.walks() {
         pool.begin(target.at);
@@ -370,8 +370,8 @@ fn begin(pool: &mut Pool, params: &Params, target: &Target)
 
 /// Has the walks of a pool go on to their ends, and tells whether they came there, with the sum of their pulls.
 fn end_walks<L: Lender>(wood: &Wood, lender: &L, pool: &mut Pool, sum: &mut V3) -> bool
-    requires range { AllInRange wood.now.params pool.old.walks }
-    ensures range { AllInRange wood.now.params pool.new.walks }
+    requires range { AreSumsInRange wood.now.params pool.old.walks }
+    ensures range { AreSumsInRange wood.now.params pool.new.walks }
 {
     let done = pool.advance(&wood.params, &wood.tree, lender) == Ok(true);
     for i in 0..pool.len() {

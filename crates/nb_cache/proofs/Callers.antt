@@ -10,8 +10,8 @@ use Rattle.nb_host.specs.declared.host.Channel.{Channel}
 use Rattle.nb_host.specs.declared.page_name.PageName.{PageName}
 use Rattle.nb_host.specs.declared.page_name.TheConstants.{PAGE_SIZE}
 use Rattle.nb_host.proofs.Callers.{agrees_itself, agrees_more, agrees_both, leads_none, leads_more, leads_then, ok_is_no_error, stopped_after}
-use Rattle.nb_cache.specs.InStep.{IsCachedFile, Fits, IsInStep}
-use Rattle.nb_cache.specs.View.{CacheValue, overlaid, shown, view_of, seen, Seen, Same}
+use Rattle.nb_cache.specs.InStep.{IsCachedFile, IsCoherent, IsInStep}
+use Rattle.nb_cache.specs.View.{CacheValue, overlaid, resident_bytes, view_of, seen, Seen, Same}
 use Rattle.nb_cache.specs.Writes.{Writes, RanCached}
 use Rattle.nb_cache.proofs.Fitting.{fits_elsewhere}
 
@@ -179,18 +179,10 @@ pub seen_after : {H : Type 0} {m : HostModel H} {file : ℕ} {R : List ℕ → L
 seen_after {R = R} one two =
     seen_then one two (λ before between after same step. subst (λ (l : List ℕ). R l after) same step)
 
--- a change before calls that leave the file alone
-pub seen_before : {H : Type 0} {m : HostModel H} {file : ℕ} {R : List ℕ → List ℕ → Type 0}
-    {old_cache middle_cache new_cache : CacheValue} {old middle new : H}
-    → Seen m file R old_cache old middle_cache middle → Seen m file Same middle_cache middle new_cache new
-    → Seen m file R old_cache old new_cache new
-seen_before {R = R} one two =
-    seen_then one two (λ before between after step same. subst (λ (l : List ℕ). R before l) (sym same) step)
-
 -- The bytes that a cache lends after calls that left the file alone are its page as it was.
 pub lent_page : {H : Type 0} {m : HostModel H} {files : List ℕ} {old_cache new_cache : CacheValue} {old new : H}
     {bytes : List ℕ} (name : PageName) → (Contains files name.file → ⊥) → Writes m files old_cache old new_cache new
-    → ((image : Image) → Fits new_cache image → bytes ≡ page_of (view_of new_cache image name.file) name.page)
+    → ((image : Image) → IsCoherent new_cache image → bytes ≡ page_of (view_of new_cache image name.file) name.page)
     → IsTrue m.tells → bytes ≡ page_of (seen m old_cache old name.file) name.page
 lent_page {m = m} {new = new} name spared writes lent tells =
     lent (m.contents new) (writes.in_step tells) ∙ ap (λ l. page_of l name.page) (writes.view tells name.file spared)
@@ -198,10 +190,10 @@ lent_page {m = m} {new = new} name spared writes lent tells =
 -- What a cache shows after calls that left the file alone, of any page, is the page as it was. The first fact is the clause
 -- `shown` of `pages`.
 pub shown_page : {H : Type 0} {m : HostModel H} {files : List ℕ} {old_cache new_cache : CacheValue} {old new : H}
-    → ((image : Image) (name : PageName) (bytes : List ℕ) → Fits new_cache image → shown new_cache.held name ≡ Some bytes
+    → ((image : Image) (name : PageName) (bytes : List ℕ) → IsCoherent new_cache image → resident_bytes new_cache.held name ≡ Some bytes
     → (bytes ≡ page_of (view_of new_cache image name.file) name.page) × (length bytes ≡ PAGE_SIZE))
     → Writes m files old_cache old new_cache new → IsTrue m.tells → (name : PageName) (bytes : List ℕ)
-    → (Contains files name.file → ⊥) → shown new_cache.held name ≡ Some bytes
+    → (Contains files name.file → ⊥) → resident_bytes new_cache.held name ≡ Some bytes
     → bytes ≡ page_of (seen m old_cache old name.file) name.page
 shown_page {m = m} {new = new} all writes tells name bytes spared is =
     (all (m.contents new) name bytes (writes.in_step tells) is).0

@@ -12,11 +12,11 @@ use Rattle.lru.proofs.Splits.{Contains-head, Contains-tail, Contains-cons, Conta
 use Rattle.nb_host.specs.Page.{same_page}
 use Rattle.nb_cache.specs.Stock.{Stock, held_of}
 use Rattle.nb_cache.specs.InStep.{IsCacheable}
-use Rattle.nb_cache.specs.Names.{held_without, rested, settled}
+use Rattle.nb_cache.specs.Names.{held_without, cleaned_page, with_clean}
 use Rattle.nb_cache.specs.Sound.{AreResident}
 use Rattle.nb_cache.specs.View.{Held, CacheValue, held_names}
 use Rattle.nb_cache.specs.declared.frame.Frame.{Frame}
-use Rattle.nb_host.proofs.Callers.{same_page_apart, same_page_eq}
+use Rattle.nb_host.proofs.Callers.{same_page_eq}
 use Rattle.nb_cache.proofs.Pages.{others}
 
 abbrev pub stock_of : List (PageName × Frame) → ℕ → ℕ → ℕ → Stock
@@ -27,7 +27,7 @@ abbrev pub cache_of : Stock → List ℕ → CacheValue
 cache_of s unwritten = record { pages = s.pages; held = s.held; unwritten = unwritten }
 
 abbrev pub held : PageName × Frame → Held
-held e = record { name = e.0; bytes = e.1.bytes.items; waiting = e.1.waiting }
+held e = record { name = e.0; bytes = e.1.bytes.items; dirty = e.1.dirty }
 
 pub names_of-held : (es : List (PageName × Frame)) → held_names (held_of es) ≡ keys_of es
 names_of-held [] = refl
@@ -58,30 +58,6 @@ Contains-held_more few more within h has =
     let one = Contains-held few h has in
     subst (Contains (held_of more)) one.2 (Contains-to_held more one.0 (within one.0 one.1))
 
--- a pair of other names
-pub Contains-others : (k : PageName) (es : List (PageName × Frame)) (e : PageName × Frame) → Contains (others k es) e
-    → Contains es e × (same_page k e.0 ≡ false)
-Contains-others k [] e has = absurd (Contains-nil e has)
-Contains-others k (f ∷ es) e has = (elim (same_page k f.0) as (λ y. same_page k f.0 ≡ y → Contains (f ∷ es) e × (same_page k e.0 ≡ false)) [
-  | true ↦ λ here. let there = Contains-others k es e (rw here at has) in (Contains-tail f es e there.0, there.1)
-  | false ↦ λ here. elim (Contains-cons f (others k es) e (rw here at has)) [
-    | inl same ↦ (
-      subst (Contains (f ∷ es)) same (Contains-head f es),
-      subst (λ g. same_page k g.0 ≡ false) same here,
-    )
-    | inr there ↦ let one = Contains-others k es e there in (Contains-tail f es e one.0, one.1)
-  ]
-]) refl
-
-pub others_held : (n : ℕ) (k : PageName) (es : List (PageName × Frame)) (h : Held)
-    → Contains (held_of (take n (others k es))) h → Contains (held_of es) h × (h.name ≢ k)
-others_held n k es h has =
-    let one = Contains-held (take n (others k es)) h has in
-    let kept = Contains-others k es one.0 (Contains-take n (others k es) one.0 one.1) in (
-      subst (Contains (held_of es)) one.2 (Contains-to_held es one.0 kept.0),
-      λ same. same_page_apart k one.0.0 kept.1 (sym (ap (λ (g : Held). g.name) one.2 ∙ same)),
-    )
-
 -- the resident pages without one, and the first of them
 pub held_of-others : (k : PageName) (es : List (PageName × Frame)) → held_of (others k es) ≡ held_without k (held_of es)
 held_of-others k [] = refl
@@ -96,12 +72,12 @@ held_of-take (suc n) [] = refl
 held_of-take (suc n) (e ∷ es) = ap (λ l. held e ∷ l) (held_of-take n es)
 
 -- a page that no longer waits
-pub held_of-settled : (k : PageName) (es : List (PageName × Frame)) (frame after : Frame)
+pub held_of-with_clean : (k : PageName) (es : List (PageName × Frame)) (frame after : Frame)
     → IsDistinct same_page (keys_of es) → lookup (same_page k) es ≡ Some frame
     → after.bytes.items ≡ frame.bytes.items
-    → after.waiting ≡ false → held_of (set_value (same_page k) es after) ≡ settled k (held_of es)
-held_of-settled k [] frame after distinct there bytes rests = refl
-held_of-settled k (e ∷ es) frame after distinct there bytes rests = (elim (same_page k e.0) as (λ y. same_page k e.0 ≡ y → held_of (set_value (same_page k) (e ∷ es) after) ≡ settled k (held_of (e ∷ es))) [
+    → after.dirty ≡ false → held_of (set_value (same_page k) es after) ≡ with_clean k (held_of es)
+held_of-with_clean k [] frame after distinct there bytes rests = refl
+held_of-with_clean k (e ∷ es) frame after distinct there bytes rests = (elim (same_page k e.0) as (λ y. same_page k e.0 ≡ y → held_of (set_value (same_page k) (e ∷ es) after) ≡ with_clean k (held_of (e ∷ es))) [
   | true ↦ λ here.
       let same : Some e.1 ≡ Some frame = rw here at there in
       let is : e.1 ≡ frame = (cc) in
@@ -109,27 +85,27 @@ held_of-settled k (e ∷ es) frame after distinct there bytes rests = (elim (sam
       subst (λ n. AllByRecursion (λ y. same_page n y ≡ false) (keys_of es)) (sym (same_page_eq k e.0 here))
       (IsDistinct-head same_page e.0 (keys_of es) distinct) in
       ap (λ b. held_of (cond b ((e.0, after) ∷ es) (e ∷ set_value (same_page k) es after))) here
-      ∙ ap (λ (h : Held). h ∷ held_of es) (made e.0 after.bytes.items e.1.bytes.items after.waiting (bytes ∙ ap (λ (f : Frame). f.bytes.items) (sym is)) rests)
-      ∙ ap (λ l. rested (held e) ∷ l) (sym (settled_lacking k es apart))
-      ∙ sym (ap (λ (b : Bool). (if b then rested (held e) else held e) ∷ settled k (held_of es)) here)
+      ∙ ap (λ (h : Held). h ∷ held_of es) (made e.0 after.bytes.items e.1.bytes.items after.dirty (bytes ∙ ap (λ (f : Frame). f.bytes.items) (sym is)) rests)
+      ∙ ap (λ l. cleaned_page (held e) ∷ l) (sym (settled_lacking k es apart))
+      ∙ sym (ap (λ (b : Bool). (if b then cleaned_page (held e) else held e) ∷ with_clean k (held_of es)) here)
   | false ↦ λ other.
       ap (λ b. held_of (cond b ((e.0, after) ∷ es) (e ∷ set_value (same_page k) es after))) other
-      ∙ ap (λ l. held e ∷ l) (held_of-settled k es frame after (IsDistinct-tail same_page e.0 (keys_of es) distinct)
+      ∙ ap (λ l. held e ∷ l) (held_of-with_clean k es frame after (IsDistinct-tail same_page e.0 (keys_of es) distinct)
       (rw other at there) bytes rests)
-      ∙ sym (ap (λ (b : Bool). (if b then rested (held e) else held e) ∷ settled k (held_of es)) other)
+      ∙ sym (ap (λ (b : Bool). (if b then cleaned_page (held e) else held e) ∷ with_clean k (held_of es)) other)
 ]) refl
   where
     page : PageName → List ℕ → Bool → Held
-    page name bytes waits = record { name = name; bytes = bytes; waiting = waits }
+    page name bytes waits = record { name = name; bytes = bytes; dirty = waits }
 
     made : (name : PageName) (a b : List ℕ) (w : Bool) → a ≡ b → w ≡ false → page name a w ≡ page name b false
     made name a b w same rests = ap (page name a) rests ∙ ap (λ l. page name l false) same
 
     settled_lacking : (k : PageName) (es : List (PageName × Frame)) → AllByRecursion (λ y. same_page k y ≡ false) (keys_of es)
-        → settled k (held_of es) ≡ held_of es
+        → with_clean k (held_of es) ≡ held_of es
     settled_lacking k [] apart = refl
     settled_lacking k (e ∷ es) apart =
-        ap (λ (b : Bool). (if b then rested (held e) else held e) ∷ settled k (held_of es)) apart.0
+        ap (λ (b : Bool). (if b then cleaned_page (held e) else held e) ∷ with_clean k (held_of es)) apart.0
         ∙ ap (λ l. held e ∷ l) (settled_lacking k es apart.1)
 
 pub sound : (es : List (PageName × Frame)) (cap : ℕ) → IsValid same_page (lru_cache es cap)

@@ -8,31 +8,31 @@ use Rattle.nb_host.specs.Page.{HasPage, page_of, page_start, same_page}
 use Rattle.nb_host.specs.declared.page_name.PageName.{PageName}
 use Rattle.nb_host.specs.declared.page_name.TheConstants.{PAGE_SIZE}
 use Rattle.nb_host.proofs.Callers.{page_kept, page_stays, page_written, whole_page, same_page_eq, same_page_apart, same_page_refl}
-use Rattle.nb_cache.specs.InStep.{IsCachedFile, IsCacheable, Fits}
-use Rattle.nb_cache.specs.Names.{without_file, held_without, rested, settled, IsMoved, IsWithoutFile, SparesWaiting}
+use Rattle.nb_cache.specs.InStep.{IsCachedFile, IsCacheable, IsCoherent}
+use Rattle.nb_cache.specs.Names.{without_file, held_without, cleaned_page, with_clean, IsPromoted, IsWithoutFile, SparesDirty}
 use Rattle.nb_cache.specs.Sound.{AreResident}
-use Rattle.nb_cache.specs.View.{Held, CacheValue, Waits, names_of, overlaid, view_of, IsWhole}
+use Rattle.nb_cache.specs.View.{Held, CacheValue, IsDirty, names_of, overlaid, view_of, IsWhole}
 use Rattle.nb_cache.proofs.Overlays.{Lacks, Whole, lacks_at, there_or_lacks, without_lacking, lacks_without, without_has, has_without, one_of_name, page_length}
 use Rattle.nb_cache.proofs.Laying.{lies, laid, laid_over, overlaid_out, overlaid_rest, overlaid_none, overlaid_settled, settled_has, has_settled, whole_without}
 use Rattle.nb_cache.proofs.Torn.{length_overlaid, lies_of, view_under}
 
--- Pages that wait.
+-- Dirty pages.
 
 pub waits_more : (few more : List Held) (name : PageName)
-    → ((h : Held) → Contains few h → h.waiting ≡ true → h.name ≡ name → Contains more h) → Waits few name → Waits more name
+    → ((h : Held) → Contains few h → h.dirty ≡ true → h.name ≡ name → Contains more h) → IsDirty few name → IsDirty more name
 waits_more few more name within one = record {
   page = one.page;
-  there = within one.page one.there one.waiting one.named;
+  there = within one.page one.there one.dirty one.named;
   named = one.named;
-  waiting = one.waiting;
+  dirty = one.dirty;
 }
 
--- The same pages show the same, and as many wait.
-pub fits_as : (old new : CacheValue) (image : Image) → Fits old image
+-- The same pages show the same, and as many are dirty.
+pub fits_as : (old new : CacheValue) (image : Image) → IsCoherent old image
     → ((h : Held) → Contains new.held h → Contains old.held h)
-    → ((h : Held) → Contains new.held h → h.waiting ≡ true → Contains new.unwritten h.name.file)
+    → ((h : Held) → Contains new.held h → h.dirty ≡ true → Contains new.unwritten h.name.file)
     → ((file : ℕ) → view_of new image file ≡ view_of old image file)
-    → ((name : PageName) → Waits old.held name → Waits new.held name) → Fits new image
+    → ((name : PageName) → IsDirty old.held name → IsDirty new.held name) → IsCoherent new image
 fits_as old new image fits fewer marked view waits = record {
   places = λ h has. fits.places h (fewer h has);
   pages = λ h has. fits.pages h (fewer h has);
@@ -45,30 +45,30 @@ fits_as old new image fits fewer marked view waits = record {
 }
 
 -- the same pages, and other files marked
-pub fits_marked : (old new : CacheValue) (image : Image) → Fits old image → new.held ≡ old.held
-    → ((file : ℕ) → Contains old.unwritten file → Contains new.unwritten file) → Fits new image
+pub fits_marked : (old new : CacheValue) (image : Image) → IsCoherent old image → new.held ≡ old.held
+    → ((file : ℕ) → Contains old.unwritten file → Contains new.unwritten file) → IsCoherent new image
 fits_marked old new image fits held more =
     let was : (h : Held) → Contains new.held h → Contains old.held h = λ h has. subst (λ l. Contains l h) held has in
     fits_as old new image fits was
     (λ h has waits. more h.name.file (fits.marked h (was h has) waits))
     (λ file. ap (λ l. overlaid file l (image.file file)) held)
-    (λ name one. subst (λ l. Waits l name) (sym held) one)
+    (λ name one. subst (λ l. IsDirty l name) (sym held) one)
 
 -- no page waits, and no file is marked
-pub fits_rested : (old new : CacheValue) (image : Image) → Fits old image → new.held ≡ old.held
-    → ((name : PageName) → Waits old.held name → ⊥) → Fits new image
+pub fits_rested : (old new : CacheValue) (image : Image) → IsCoherent old image → new.held ≡ old.held
+    → ((name : PageName) → IsDirty old.held name → ⊥) → IsCoherent new image
 fits_rested old new image fits held none =
     let was : (h : Held) → Contains new.held h → Contains old.held h = λ h has. subst (λ l. Contains l h) held has in
     fits_as old new image fits was
-    (λ h has waits. absurd (none h.name (record { page = h; there = was h has; named = refl; waiting = waits })))
+    (λ h has waits. absurd (none h.name (record { page = h; there = was h has; named = refl; dirty = waits })))
     (λ file. ap (λ l. overlaid file l (image.file file)) held)
-    (λ name one. subst (λ l. Waits l name) (sym held) one)
+    (λ name one. subst (λ l. IsDirty l name) (sym held) one)
 
 -- where no page waits, what is shown is the host's
-pub rests : (held : List Held) → ((name : PageName) → Waits held name → ⊥) → (h : Held) → Contains held h → h.waiting ≡ false
-rests held none h has = (elim h.waiting as (λ y. h.waiting ≡ y → h.waiting ≡ false) [
+pub rests : (held : List Held) → ((name : PageName) → IsDirty held name → ⊥) → (h : Held) → Contains held h → h.dirty ≡ false
+rests held none h has = (elim h.dirty as (λ y. h.dirty ≡ y → h.dirty ≡ false) [
   | false ↦ λ is. is
-  | true ↦ λ is. absurd (none h.name (record { page = h; there = has; named = refl; waiting = is }))
+  | true ↦ λ is. absurd (none h.name (record { page = h; there = has; named = refl; dirty = is }))
 ]) refl
 
 pub name_there : (held : List Held) (h : Held) → Contains held h → Contains (map (λ g. g.name) held) h.name
@@ -81,7 +81,7 @@ name_there (g ∷ held) h has = elim (Contains-cons g held h has) [
 
 -- A page became the most recently used.
 
-module _ (name : PageName) (pages : ℕ) (old new : List Held) (moved : IsMoved name old new) (sound : AreResident pages old) where
+module _ (name : PageName) (pages : ℕ) (old new : List Held) (moved : IsPromoted name old new) (sound : AreResident pages old) where
   pub moved_has : (h : Held) → Contains new h → Contains old h
   moved_has h has = elim (Contains-cons moved.page (held_without name old) h (subst (λ l. Contains l h) moved.now has)) [
     | inl same ↦ subst (Contains old) same moved.there
@@ -103,8 +103,8 @@ module _ (name : PageName) (pages : ℕ) (old new : List Held) (moved : IsMoved 
       ap (λ l. overlaid file l bytes) moved.now
       ∙ sym (overlaid_rest file name moved.page old bytes sound.distinct sound.whole moved.there moved.named)
 
-pub fits_moved : (name : PageName) (old new : CacheValue) (image : Image) → IsMoved name old.held new.held
-    → AreResident old.pages old.held → new.unwritten ≡ old.unwritten → Fits old image → Fits new image
+pub fits_moved : (name : PageName) (old new : CacheValue) (image : Image) → IsPromoted name old.held new.held
+    → AreResident old.pages old.held → new.unwritten ≡ old.unwritten → IsCoherent old image → IsCoherent new image
 fits_moved name old new image moved sound unwritten fits =
     fits_as old new image fits (moved_has name old.pages old.held new.held moved sound)
     (λ h has waits. subst (λ l. Contains l h.name.file) (sym unwritten)
@@ -113,7 +113,7 @@ fits_moved name old new image moved sound unwritten fits =
     (λ n one. waits_more old.held new.held n (λ h has _ _. moved_kept name old.pages old.held new.held moved sound h has) one)
 
 -- one of this file, or of another, went to the front
-pub moved_file : (name : PageName) (pages file : ℕ) (old new : List Held) → IsMoved name old new → AreResident pages old
+pub moved_file : (name : PageName) (pages file : ℕ) (old new : List Held) → IsPromoted name old new → AreResident pages old
     → IsWithoutFile file old new
 moved_file name pages file old new moved sound = record {
   fewer = moved_has name pages old new moved sound;
@@ -142,7 +142,7 @@ without_page name pages file old new sound of_file gone = record {
     hidden other bytes differ = elim (there_or_lacks name old) [
       | inr lacks ↦ ap (λ l. overlaid other l bytes) (without_lacking name old lacks)
       | inl one ↦
-          let none : lies other one.0 ≡ false = lies_not one.0.waiting one.0.name.file other
+          let none : lies other one.0 ≡ false = lies_not one.0.dirty one.0.name.file other
           (λ same. differ (sym same ∙ ap (λ (n : PageName). n.file) one.2 ∙ of_file)) in
           sym (overlaid_rest other name one.0 old bytes sound.distinct sound.whole one.1 one.2 ∙ rw none refl)
     ]
@@ -180,9 +180,9 @@ longer before after k torn file = elim (same_or file k.file) [
 ]
 
 -- a page of the view that the host got no shorter of is there, or waits
-whole_still : (c : CacheValue) (before after : Image) → Whole c.held → Fits c before
+whole_still : (c : CacheValue) (before after : Image) → Whole c.held → IsCoherent c before
     → ((file : ℕ) → length (before.file file) ≤ length (after.file file)) → (name : PageName) → IsCachedFile name.file
-    → IsWhole c after name → HasPage (after.file name.file) name.page ⊎ Waits c.held name
+    → IsWhole c after name → HasPage (after.file name.file) name.page ⊎ IsDirty c.held name
 whole_still c before after whole fits more name cached there =
     elim (decide (page_start (name.page + 1)) (length (after.file name.file))) [
       | inl has ↦ inl has
@@ -202,20 +202,20 @@ whole_still c before after whole fits more name cached there =
 lies_not : (w : Bool) (f file : ℕ) → f ≢ file → (w && (f == file)) ≡ false
 lies_not w f file other = grind (arith, nat_tests)
 
-module _ (c : CacheValue) (before after : Image) (k : PageName) (torn : FileBecomes k.file (IsTorn (page_start k.page) PAGE_SIZE) before after) (sound : AreResident c.pages c.held) (fits : Fits c before) where
-  -- the other pages that don't wait are the host's still
-  page_still : (h : Held) → Contains c.held h → h.waiting ≡ false → h.name ≢ k
+module _ (c : CacheValue) (before after : Image) (k : PageName) (torn : FileBecomes k.file (IsTorn (page_start k.page) PAGE_SIZE) before after) (sound : AreResident c.pages c.held) (fits : IsCoherent c before) where
+  -- the other pages that are clean are the host's still
+  page_still : (h : Held) → Contains c.held h → h.dirty ≡ false → h.name ≢ k
       → h.bytes ≡ page_of (after.file h.name.file) h.name.page
   page_still h has written apart =
       let page = fits.pages h has written in
       let full = ap (λ l. length l) (sym page) ∙ sound.whole h has in
       page ∙ sym (other_page before after k h.name torn apart (whole_page (before.file h.name.file) h.name.page full))
 
-  module _ (h : Held) (has : Contains c.held h) (named : h.name ≡ k) (waits : h.waiting ≡ true) where
-    apart_from : (g : Held) → Contains c.held g → g.waiting ≡ false → g.name ≢ k
+  module _ (h : Held) (has : Contains c.held h) (named : h.name ≡ k) (waits : h.dirty ≡ true) where
+    apart_from : (g : Held) → Contains c.held g → g.dirty ≡ false → g.name ≢ k
     apart_from g has_g rests same =
         let one = one_of_name c.held g h sound.distinct has_g has (same ∙ sym named) in
-        let two : false ≡ true = sym rests ∙ ap (λ (f : Held). f.waiting) one ∙ waits in (cc)
+        let two : false ≡ true = sym rests ∙ ap (λ (f : Held). f.dirty) one ∙ waits in (cc)
 
     -- under a page that waits nothing is seen of it
     pub view_stays : (file : ℕ) → view_of c after file ≡ view_of c before file
@@ -227,7 +227,7 @@ module _ (c : CacheValue) (before after : Image) (k : PageName) (torn : FileBeco
       | inr other ↦ ap (λ l. overlaid file c.held l) (torn.others file other)
     ]
 
-    pub fits_under : Fits c after
+    pub fits_under : IsCoherent c after
     fits_under = record {
       places = fits.places;
       pages = λ g has_g rests. page_still g has_g rests (apart_from g has_g rests);
@@ -235,7 +235,7 @@ module _ (c : CacheValue) (before after : Image) (k : PageName) (torn : FileBeco
       no_gap = whole_still c before after sound.whole fits (longer before after k torn);
     }
 
-    module _ (new : CacheValue) (held : new.held ≡ settled k c.held) (unwritten : new.unwritten ≡ c.unwritten) (wrote : FileBecomes k.file (IsOverwritten (page_start k.page) h.bytes) before after) where
+    module _ (new : CacheValue) (held : new.held ≡ with_clean k c.held) (unwritten : new.unwritten ≡ c.unwritten) (wrote : FileBecomes k.file (IsOverwritten (page_start k.page) h.bytes) before after) where
       laid_is : (file : ℕ) → after.file file ≡ laid file h (before.file file)
       laid_is file = elim (same_or file k.file) [
         | inl same ↦
@@ -244,13 +244,13 @@ module _ (c : CacheValue) (before after : Image) (k : PageName) (torn : FileBeco
             ∙ sym (rw lies_there (ap (λ (n : PageName). overwritten (page_start n.page) h.bytes (before.file file)) named))
         | inr other ↦
             let none : lies file h ≡ false =
-            lies_not h.waiting h.name.file file (λ same. other (sym same ∙ ap (λ (n : PageName). n.file) named)) in
+            lies_not h.dirty h.name.file file (λ same. other (sym same ∙ ap (λ (n : PageName). n.file) named)) in
             rw none (wrote.others file other)
       ]
 
       pub settled_view : (file : ℕ) → view_of new after file ≡ view_of c before file
       settled_view file =
-          ap (λ l. overlaid file l (after.file file)) held ∙ ap (λ l. overlaid file (settled k c.held) l) (laid_is file)
+          ap (λ l. overlaid file l (after.file file)) held ∙ ap (λ l. overlaid file (with_clean k c.held) l) (laid_is file)
           ∙ overlaid_settled file k h c.held (before.file file) sound.distinct sound.whole has named
 
       page_is : page_of (after.file k.file) k.page ≡ h.bytes
@@ -258,20 +258,20 @@ module _ (c : CacheValue) (before after : Image) (k : PageName) (torn : FileBeco
           ap (λ l. page_of l k.page) wrote.file
           ∙ page_written k.page h.bytes (before.file k.file) (sound.whole h has)
 
-      waits_or : (name : PageName) → Waits c.held name → HasPage (after.file name.file) name.page ⊎ Waits new.held name
-      waits_or name one = (elim (same_page k name) as (λ y. same_page k name ≡ y → HasPage (after.file name.file) name.page ⊎ Waits new.held name) [
+      waits_or : (name : PageName) → IsDirty c.held name → HasPage (after.file name.file) name.page ⊎ IsDirty new.held name
+      waits_or name one = (elim (same_page k name) as (λ y. same_page k name ≡ y → HasPage (after.file name.file) name.page ⊎ IsDirty new.held name) [
         | true ↦ λ here. inl (subst (λ (n : PageName). HasPage (after.file n.file) n.page) (same_page_eq k name here)
             (whole_page (after.file k.file) k.page (ap (λ l. length l) page_is ∙ sound.whole h has)))
-        | false ↦ λ other. inr (subst (λ l. Waits l name) (sym held)
-            (waits_more c.held (settled k c.held) name
+        | false ↦ λ other. inr (subst (λ l. IsDirty l name) (sym held)
+            (waits_more c.held (with_clean k c.held) name
             (λ g has_g _ is. has_settled k c.held g has_g (ap (same_page k) is ∙ other)) one))
       ]) refl
 
       was : (g : Held) → Contains new.held g
-          → (Contains c.held g × (same_page k g.name ≡ false)) ⊎ ((f : Held) × Contains c.held f × (f.name ≡ k) × (g ≡ rested f))
+          → (Contains c.held g × (same_page k g.name ≡ false)) ⊎ ((f : Held) × Contains c.held f × (f.name ≡ k) × (g ≡ cleaned_page f))
       was g has_g = settled_has k c.held g (subst (λ l. Contains l g) held has_g)
 
-      pub fits_settled : Fits new after
+      pub fits_settled : IsCoherent new after
       fits_settled = record {
         places = λ g has_g. elim (was g has_g) [
           | inl one ↦ fits.places g one.0
@@ -282,13 +282,13 @@ module _ (c : CacheValue) (before after : Image) (k : PageName) (torn : FileBeco
           | inr one ↦
               let is : one.0 ≡ h = one_of_name c.held one.0 h sound.distinct one.1 has (one.2 ∙ sym named) in
               subst (λ (f : Held). f.bytes ≡ page_of (after.file f.name.file) f.name.page)
-              (sym (one.3 ∙ ap rested is))
+              (sym (one.3 ∙ ap cleaned_page is))
               (subst (λ (n : PageName). h.bytes ≡ page_of (after.file n.file) n.page) (sym named) (sym page_is))
         ];
         marked = λ g has_g waits_g. elim (was g has_g) [
           | inl one ↦ subst (λ l. Contains l g.name.file) (sym unwritten) (fits.marked g one.0 waits_g)
           | inr one ↦
-              let two : true ≡ false = sym waits_g ∙ ap (λ (f : Held). f.waiting) one.3 in absurd (cc)
+              let two : true ≡ false = sym waits_g ∙ ap (λ (f : Held). f.dirty) one.3 in absurd (cc)
         ];
         no_gap = λ name cached whole.
             elim (fits.no_gap name cached (subst (λ l. HasPage l name.page) (settled_view name.file) whole)) [
@@ -299,15 +299,15 @@ module _ (c : CacheValue) (before after : Image) (k : PageName) (torn : FileBeco
 
 -- A page is placed.
 
--- pages that leave and don't wait show nothing
+-- pages that leave and are clean show nothing
 take_rests : (n : ℕ) (xs : List Held) (file : ℕ) (bytes : List ℕ)
-    → ((h : Held) → Contains (drop n xs) h → h.waiting ≡ false) → overlaid file (take n xs) bytes ≡ overlaid file xs bytes
+    → ((h : Held) → Contains (drop n xs) h → h.dirty ≡ false) → overlaid file (take n xs) bytes ≡ overlaid file xs bytes
 take_rests zero xs file bytes rest = sym (overlaid_none file xs bytes rest)
 take_rests (suc n) [] file bytes rest = refl
 take_rests (suc n) (x ∷ xs) file bytes rest = ap (λ l. laid file x l) (take_rests n xs file bytes rest)
 
-take_waits : (n : ℕ) (xs : List Held) (h : Held) → ((g : Held) → Contains (drop n xs) g → g.waiting ≡ false)
-    → Contains xs h → h.waiting ≡ true → Contains (take n xs) h
+take_waits : (n : ℕ) (xs : List Held) (h : Held) → ((g : Held) → Contains (drop n xs) g → g.dirty ≡ false)
+    → Contains xs h → h.dirty ≡ true → Contains (take n xs) h
 take_waits zero xs h rest has waits = let two : false ≡ true = sym (rest h has) ∙ waits in absurd (cc)
 take_waits (suc n) [] h rest has waits = has
 take_waits (suc n) (x ∷ xs) h rest has waits = elim (Contains-cons x xs h has) [
@@ -315,7 +315,7 @@ take_waits (suc n) (x ∷ xs) h rest has waits = elim (Contains-cons x xs h has)
   | inr there ↦ Contains-tail x (take n xs) h (take_waits n xs h rest there waits)
 ]
 
-module _ (k : PageName) (p : Held) (named : p.name ≡ k) (full : length p.bytes ≡ PAGE_SIZE) (place : IsCacheable k) (old new : CacheValue) (sound : AreResident old.pages old.held) (room : SparesWaiting k old.pages old.held) (held : new.held ≡ p ∷ take (old.pages - 1) (held_without k old.held)) (unwritten : new.unwritten ≡ old.unwritten) where
+module _ (k : PageName) (p : Held) (named : p.name ≡ k) (full : length p.bytes ≡ PAGE_SIZE) (place : IsCacheable k) (old new : CacheValue) (sound : AreResident old.pages old.held) (room : SparesDirty k old.pages old.held) (held : new.held ≡ p ∷ take (old.pages - 1) (held_without k old.held)) (unwritten : new.unwritten ≡ old.unwritten) where
   pub placed_has : (h : Held) → Contains new.held h → (h ≡ p) ⊎ (Contains old.held h × (same_page k h.name ≡ false))
   placed_has h has =
       elim (Contains-cons p (take (old.pages - 1) (held_without k old.held)) h (subst (λ l. Contains l h) held has)) [
@@ -323,19 +323,19 @@ module _ (k : PageName) (p : Held) (named : p.name ≡ k) (full : length p.bytes
         | inr there ↦ inr (without_has k old.held h (Contains-take (old.pages - 1) (held_without k old.held) h there))
       ]
 
-  placed_kept : (h : Held) → Contains old.held h → h.waiting ≡ true → same_page k h.name ≡ false → Contains new.held h
+  placed_kept : (h : Held) → Contains old.held h → h.dirty ≡ true → same_page k h.name ≡ false → Contains new.held h
   placed_kept h has waits other = subst (λ l. Contains l h) (sym held)
       (Contains-tail p (take (old.pages - 1) (held_without k old.held)) h
       (take_waits (old.pages - 1) (held_without k old.held) h room.leaves (has_without k old.held h has other) waits))
 
-  placed_waits : (name : PageName) → same_page k name ≡ false → Waits old.held name → Waits new.held name
+  placed_waits : (name : PageName) → same_page k name ≡ false → IsDirty old.held name → IsDirty new.held name
   placed_waits name other one =
       waits_more old.held new.held name (λ h has waits is. placed_kept h has waits (ap (same_page k) is ∙ other)) one
 
   placed_there : Contains new.held p
   placed_there = subst (λ l. Contains l p) (sym held) (Contains-head p (take (old.pages - 1) (held_without k old.held)))
 
-  placed_places : (image : Image) → Fits old image → (h : Held) → Contains new.held h → IsCacheable h.name
+  placed_places : (image : Image) → IsCoherent old image → (h : Held) → Contains new.held h → IsCacheable h.name
   placed_places image fits h has = elim (placed_has h has) [
     | inl is ↦ subst (λ (f : Held). IsCacheable f.name) (sym is) (subst IsCacheable (sym named) place)
     | inr one ↦ fits.places h one.0
@@ -347,7 +347,7 @@ module _ (k : PageName) (p : Held) (named : p.name ≡ k) (full : length p.bytes
       ∙ ap (λ l. laid file p l) (take_rests (old.pages - 1) (held_without k old.held) file bytes room.leaves)
 
   -- a page that waits
-  module _ (waits : p.waiting ≡ true) where
+  module _ (waits : p.dirty ≡ true) where
     -- what is shown changes by it
     pub put_over : (file : ℕ) (bytes : List ℕ) → overlaid file new.held bytes ≡ laid file p (overlaid file old.held bytes)
     put_over file bytes =
@@ -362,27 +362,27 @@ module _ (k : PageName) (p : Held) (named : p.name ≡ k) (full : length p.bytes
     pub put_others : (image : Image) (file : ℕ) → file ≢ k.file → view_of new image file ≡ view_of old image file
     put_others image file other =
         let none : lies file p ≡ false =
-        lies_not p.waiting p.name.file file (λ same. other (sym same ∙ ap (λ (n : PageName). n.file) named)) in
+        lies_not p.dirty p.name.file file (λ same. other (sym same ∙ ap (λ (n : PageName). n.file) named)) in
         put_over file (image.file file) ∙ rw none refl
 
     pub fits_put : (image : Image) → page_start k.page ≤ length (view_of old image k.file) → Contains old.unwritten k.file
-        → Fits old image → Fits new image
+        → IsCoherent old image → IsCoherent new image
     fits_put image joins marked fits = record {
       places = placed_places image fits;
       pages = λ h has rests. elim (placed_has h has) [
-        | inl is ↦ let two : false ≡ true = sym rests ∙ ap (λ (f : Held). f.waiting) is ∙ waits in absurd (cc)
+        | inl is ↦ let two : false ≡ true = sym rests ∙ ap (λ (f : Held). f.dirty) is ∙ waits in absurd (cc)
         | inr one ↦ fits.pages h one.0 rests
       ];
       marked = λ h has waits_h. subst (λ l. Contains l h.name.file) (sym unwritten) (elim (placed_has h has) [
         | inl is ↦ subst (Contains old.unwritten) (sym (ap (λ (f : Held). f.name.file) is ∙ ap (λ (n : PageName). n.file) named)) marked
         | inr one ↦ fits.marked h one.0 waits_h
       ]);
-      no_gap = λ name cached whole. (elim (same_page k name) as (λ y. same_page k name ≡ y → HasPage (image.file name.file) name.page ⊎ Waits new.held name) [
+      no_gap = λ name cached whole. (elim (same_page k name) as (λ y. same_page k name ≡ y → HasPage (image.file name.file) name.page ⊎ IsDirty new.held name) [
         | true ↦ λ here. inr (record {
           page = p;
           there = placed_there;
           named = named ∙ same_page_eq k name here;
-          waiting = waits;
+          dirty = waits;
         })
         | false ↦ λ other. elim (fits.no_gap name cached (before image joins name other whole)) [
           | inl there ↦ inl there
@@ -417,7 +417,7 @@ module _ (k : PageName) (p : Held) (named : p.name ≡ k) (full : length p.bytes
         ]
 
   -- a page that rests, where it wasn't resident
-  module _ (rests_now : p.waiting ≡ false) (absent : Contains (names_of old) k → ⊥) where
+  module _ (rests_now : p.dirty ≡ false) (absent : Contains (names_of old) k → ⊥) where
     lacked : Lacks k old.held
     lacked = elim (there_or_lacks k old.held) [
       | inl one ↦ absurd (absent (subst (Contains (names_of old)) one.2 (name_there old.held one.0 one.1)))
@@ -426,20 +426,20 @@ module _ (k : PageName) (p : Held) (named : p.name ≡ k) (full : length p.bytes
 
     pub rest_view : (file : ℕ) (bytes : List ℕ) → overlaid file new.held bytes ≡ overlaid file old.held bytes
     rest_view file bytes =
-        placed_view file bytes ∙ (let none : lies file p ≡ false = not_it p.waiting p.name.file file rests_now in rw none refl)
+        placed_view file bytes ∙ (let none : lies file p ≡ false = not_it p.dirty p.name.file file rests_now in rw none refl)
         ∙ ap (λ l. overlaid file l bytes) (without_lacking k old.held lacked)
       where
         not_it : (w : Bool) (f file : ℕ) → w ≡ false → (w && (f == file)) ≡ false
         not_it w f file rests = grind (arith, nat_tests)
 
-    rest_waits : (name : PageName) → Waits old.held name → Waits new.held name
+    rest_waits : (name : PageName) → IsDirty old.held name → IsDirty new.held name
     rest_waits name one =
         placed_waits name (ap (same_page k) (sym one.named) ∙ lacks_at k old.held one.page lacked one.there) one
 
-    rest_marked : (image : Image) → Fits old image → (h : Held) → Contains new.held h → h.waiting ≡ true
+    rest_marked : (image : Image) → IsCoherent old image → (h : Held) → Contains new.held h → h.dirty ≡ true
         → Contains new.unwritten h.name.file
     rest_marked image fits h has waits = elim (placed_has h has) [
-      | inl is ↦ let two : true ≡ false = sym waits ∙ ap (λ (f : Held). f.waiting) is ∙ rests_now in absurd (cc)
+      | inl is ↦ let two : true ≡ false = sym waits ∙ ap (λ (f : Held). f.dirty) is ∙ rests_now in absurd (cc)
       | inr one ↦ subst (λ l. Contains l h.name.file) (sym unwritten) (fits.marked h one.0 waits)
     ]
 
@@ -455,10 +455,10 @@ module _ (k : PageName) (p : Held) (named : p.name ≡ k) (full : length p.bytes
         ∙ ap (λ b. if b then overwritten (page_start k.page) p.bytes (overlaid k.file old.held bytes) else overlaid k.file old.held bytes) there
       where
         late : Held
-        late = record { name = k; bytes = p.bytes; waiting = true }
+        late = record { name = k; bytes = p.bytes; dirty = true }
 
     -- it was read
-    pub fits_loaded : (image : Image) → p.bytes ≡ page_of (image.file k.file) k.page → Fits old image → Fits new image
+    pub fits_loaded : (image : Image) → p.bytes ≡ page_of (image.file k.file) k.page → IsCoherent old image → IsCoherent new image
     fits_loaded image page fits = record {
       places = placed_places image fits;
       pages = λ h has rests. elim (placed_has h has) [
@@ -476,7 +476,7 @@ module _ (k : PageName) (p : Held) (named : p.name ≡ k) (full : length p.bytes
 
     -- it was written
     pub fits_at_once : (before after : Image) → FileBecomes k.file (IsOverwritten (page_start k.page) p.bytes) before after
-        → FileBecomes k.file (IsTorn (page_start k.page) PAGE_SIZE) before after → Fits old before → Fits new after
+        → FileBecomes k.file (IsTorn (page_start k.page) PAGE_SIZE) before after → IsCoherent old before → IsCoherent new after
     fits_at_once before after wrote torn fits = record {
       places = placed_places before fits;
       pages = λ h has rests. elim (placed_has h has) [
@@ -510,7 +510,7 @@ module _ (k : PageName) (p : Held) (named : p.name ≡ k) (full : length p.bytes
           lacks_take (suc n) [] lacks = tt
           lacks_take (suc n) (x ∷ xs) lacks = (lacks.0, lacks_take n xs lacks.1)
 
-      room_now : (h : Held) → Contains (drop (old.pages - 1) old.held) h → h.waiting ≡ false
+      room_now : (h : Held) → Contains (drop (old.pages - 1) old.held) h → h.dirty ≡ false
       room_now h has =
           room.leaves h (subst (λ l. Contains (drop (old.pages - 1) l) h) (sym (without_lacking k old.held lacked)) has)
 
@@ -521,14 +521,14 @@ module _ (k : PageName) (p : Held) (named : p.name ≡ k) (full : length p.bytes
       left_has : (h : Held) → Contains last.held h → Contains old.held h
       left_has h has = Contains-take (old.pages - 1) old.held h (subst (λ l. Contains l h) left_is has)
 
-      left_waits : (name : PageName) → Waits old.held name → Waits last.held name
+      left_waits : (name : PageName) → IsDirty old.held name → IsDirty last.held name
       left_waits name one =
           waits_more old.held last.held name
           (λ h has waits _. subst (λ l. Contains l h) (sym left_is) (take_waits (old.pages - 1) old.held h room_now has waits))
           one
 
       pub fits_left : (before after : Image) → FileBecomes k.file (IsTorn (page_start k.page) PAGE_SIZE) before after
-          → Fits old before → Fits last after
+          → IsCoherent old before → IsCoherent last after
       fits_left before after torn fits = record {
         places = λ h has. fits.places h (left_has h has);
         pages = λ h has rests.
@@ -545,7 +545,7 @@ module _ (k : PageName) (p : Held) (named : p.name ≡ k) (full : length p.bytes
       }
 
       -- nothing was written
-      pub fits_gone : (image : Image) → Fits old image → Fits last image
+      pub fits_gone : (image : Image) → IsCoherent old image → IsCoherent last image
       fits_gone image fits =
           fits_as old last image fits left_has
           (λ h has waits. subst (λ l. Contains l h.name.file) (sym marks) (fits.marked h (left_has h has) waits))
@@ -579,12 +579,12 @@ module _ (old new : CacheValue) (file : ℕ) (others : IsWithoutFile file old.he
       none : (held : List Held) → ((h : Held) → Contains held h → h.name.file ≢ file) → overlaid file held bytes ≡ bytes
       none [] out = refl
       none (h ∷ held) out =
-          let not_it : lies file h ≡ false = lies_not h.waiting h.name.file file (out h (Contains-head h held)) in
+          let not_it : lies file h ≡ false = lies_not h.dirty h.name.file file (out h (Contains-head h held)) in
           rw not_it (none held (λ g has. out g (Contains-tail h held g has)))
 
   pub fits_emptied : (before after : Image) (P : List ℕ → List ℕ → Type 0) → FileBecomes file P before after
-      → ((other : ℕ) → Contains old.unwritten other → other ≢ file → Contains new.unwritten other) → Fits old before
-      → Fits new after
+      → ((other : ℕ) → Contains old.unwritten other → other ≢ file → Contains new.unwritten other) → IsCoherent old before
+      → IsCoherent new after
   fits_emptied before after P becomes marks fits = record {
     places = λ h has. fits.places h (others.fewer h has);
     pages = λ h has rests.
@@ -608,7 +608,7 @@ module _ (old new : CacheValue) (file : ℕ) (others : IsWithoutFile file old.he
 
 -- calls of the host on files that don't go through a cache keep it in step
 pub fits_elsewhere : (c : CacheValue) (before after : Image)
-    → ((file : ℕ) → IsCachedFile file → after.file file ≡ before.file file) → Fits c before → Fits c after
+    → ((file : ℕ) → IsCachedFile file → after.file file ≡ before.file file) → IsCoherent c before → IsCoherent c after
 fits_elsewhere c before after same fits = record {
   places = fits.places;
   pages = λ h has written.
@@ -623,16 +623,6 @@ fits_elsewhere c before after same fits = record {
       ];
 }
 
--- nothing is resident
-pub fits_empty : (pages : ℕ) (unwritten : List ℕ) (image : Image)
-    → Fits (record { pages = pages; held = []; unwritten = unwritten }) image
-fits_empty pages unwritten image = record {
-  places = λ h has. absurd (Contains-nil h has);
-  pages = λ h has. absurd (Contains-nil h has);
-  marked = λ h has. absurd (Contains-nil h has);
-  no_gap = λ name cached whole. inl whole;
-}
-
 named : (held : List Held) (k : PageName) → Contains (map (λ h. h.name) held) k
     → (h : Held) × Contains held h × (h.name ≡ k)
 named [] k has = absurd (Contains-nil k has)
@@ -642,10 +632,10 @@ named (h ∷ held) k has = elim (Contains-cons h.name (map (λ h. h.name) held) 
 ]
 
 -- A resident page.
-module _ (c : CacheValue) (image : Image) (sound : AreResident c.pages c.held) (fits : Fits c image) where
+module _ (c : CacheValue) (image : Image) (sound : AreResident c.pages c.held) (fits : IsCoherent c image) where
   -- its bytes are the view's page
   pub held_page : (h : Held) → Contains c.held h → h.bytes ≡ page_of (view_of c image h.name.file) h.name.page
-  held_page h has = (elim h.waiting as (λ y. h.waiting ≡ y → h.bytes ≡ page_of (view_of c image h.name.file) h.name.page) [
+  held_page h has = (elim h.dirty as (λ y. h.dirty ≡ y → h.bytes ≡ page_of (view_of c image h.name.file) h.name.page) [
     | true ↦ λ waits.
         let there : lies h.name.file h ≡ true = lies_of h.name.file h waits refl in
         sym (ap (λ l. page_of l h.name.page)
@@ -656,7 +646,7 @@ module _ (c : CacheValue) (image : Image) (sound : AreResident c.pages c.held) (
         let page = fits.pages h has rests in
         let full = ap (λ l. length l) (sym page) ∙ sound.whole h has in
         let there = whole_page (image.file h.name.file) h.name.page full in
-        let none : lies h.name.file h ≡ false = not_it h.waiting h.name.file h.name.file rests in
+        let none : lies h.name.file h ≡ false = not_it h.dirty h.name.file h.name.file rests in
         page ∙ sym (ap (λ l. page_of l h.name.page)
         (overlaid_rest h.name.file h.name h c.held (image.file h.name.file) sound.distinct sound.whole has refl)
         ∙ rw none (under h.name (held_without h.name c.held) (image.file h.name.file)
@@ -682,7 +672,7 @@ module _ (c : CacheValue) (image : Image) (sound : AreResident c.pages c.held) (
         | true ↦ λ is. rw is
             (page_kept g.name.page n.page g.bytes (overlaid n.file held bytes) (whole g (Contains-head g held))
             (still n held bytes lacks.1 (λ f has. whole f (Contains-tail g held f has)) there)
-            (apart n g.name lacks.0 (file_of g.waiting g.name.file n.file is))
+            (apart n g.name lacks.0 (file_of g.dirty g.name.file n.file is))
             ∙ under n held bytes lacks.1 (λ f has. whole f (Contains-tail g held f has)) there)
       ]) refl
         where

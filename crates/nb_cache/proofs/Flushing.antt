@@ -7,25 +7,25 @@ use Rattle.nb_host.specs.Page.{same_page}
 use Rattle.nb_host.specs.declared.page_name.PageName.{PageName}
 use Rattle.nb_host.proofs.Callers.{same_page_apart}
 use Rattle.nb_cache.specs.InStep.{IsInStep}
-use Rattle.nb_cache.specs.Names.{settled}
+use Rattle.nb_cache.specs.Names.{with_clean}
 use Rattle.nb_cache.specs.Sound.{AreResident}
-use Rattle.nb_cache.specs.View.{Held, CacheValue, Waits, names_of}
+use Rattle.nb_cache.specs.View.{Held, CacheValue, IsDirty, names_of}
 use Rattle.nb_cache.specs.Writes.{Writes}
 use Rattle.nb_cache.proofs.Callers.{writes_begins, writes_again}
 use Rattle.nb_cache.proofs.Laying.{settled_has}
 
 module _ {H : Type 0} (m : HostModel H) where
-  -- pages were written, no call failed, and the pages that wait are among these
+  -- pages were written, no call failed, and the dirty pages are among these
   pub record Flushes (old_cache : CacheValue) (old : H) (left : List PageName) (new_cache : CacheValue) (new : H) : Type 0 where
     pub names : names_of new_cache ≡ names_of old_cache
     pub unwritten : new_cache.unwritten ≡ old_cache.unwritten
-    pub waits : (name : PageName) → Waits new_cache.held name → Contains left name
+    pub waits : (name : PageName) → IsDirty new_cache.held name → Contains left name
     pub sound : AreResident new_cache.pages new_cache.held
     pub writes : Writes m [] old_cache old new_cache new
     pub spared : m.faults new ≡ m.faults old
 
   pub flushes_none : (old_cache : CacheValue) (old : H) (names : List PageName) → AreResident old_cache.pages old_cache.held
-      → IsInStep m old_cache old → ((name : PageName) → Waits old_cache.held name → Contains names name)
+      → IsInStep m old_cache old → ((name : PageName) → IsDirty old_cache.held name → Contains names name)
       → Flushes old_cache old names old_cache old
   flushes_none old_cache old names sound in_step waits = record {
     names = refl;
@@ -39,7 +39,7 @@ module _ {H : Type 0} (m : HostModel H) where
   module _ (old_cache : CacheValue) (old : H) (names : List PageName) (i : ℕ) (d : PageName) (within : i < length names) (middle_cache : CacheValue) (middle : H) (so_far : Flushes old_cache old (drop i names) middle_cache middle) where
     -- one page more
     pub flushes_at : (new_cache : CacheValue) (new : H) → names_of new_cache ≡ names_of middle_cache
-        → new_cache.held ≡ settled (get_or names i d) middle_cache.held → new_cache.unwritten ≡ middle_cache.unwritten
+        → new_cache.held ≡ with_clean (get_or names i d) middle_cache.held → new_cache.unwritten ≡ middle_cache.unwritten
         → AreResident new_cache.pages new_cache.held → Writes m [] middle_cache middle new_cache new
         → m.faults new ≡ m.faults middle → Flushes old_cache old (drop (i + 1) names) new_cache new
     flushes_at new_cache new same held unwritten sound writes spared = record {
@@ -52,10 +52,10 @@ module _ {H : Type 0} (m : HostModel H) where
                   page = one.page;
                   there = other.0;
                   named = one.named;
-                  waiting = one.waiting;
+                  dirty = one.dirty;
                 })))
             | inr rested ↦
-                let two : true ≡ false = sym one.waiting ∙ ap (λ (h : Held). h.waiting) rested.3 in absurd (cc)
+                let two : true ≡ false = sym one.dirty ∙ ap (λ (h : Held). h.dirty) rested.3 in absurd (cc)
           ];
       sound = sound;
       writes = writes_again so_far.writes writes;

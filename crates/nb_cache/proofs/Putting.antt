@@ -8,10 +8,10 @@ use Rattle.nb_host.specs.Page.{HasPage, page_of, page_start}
 use Rattle.nb_host.specs.declared.page_name.PageName.{PageName}
 use Rattle.nb_host.specs.declared.page_name.TheConstants.{PAGE_SIZE}
 use Rattle.nb_host.proofs.Callers.{page_torn, stays_contents}
-use Rattle.nb_cache.specs.InStep.{IsCacheable, IsInStep, Fits}
-use Rattle.nb_cache.specs.Names.{without_file, held_without, IsMoved, IsWithoutFile, SparesWaiting}
+use Rattle.nb_cache.specs.InStep.{IsCacheable, IsInStep, IsCoherent}
+use Rattle.nb_cache.specs.Names.{without_file, held_without, IsPromoted, IsWithoutFile, SparesDirty}
 use Rattle.nb_cache.specs.Sound.{AreResident}
-use Rattle.nb_cache.specs.View.{Held, CacheValue, Seen, Same, Waits, IsWhole, names_of, overlaid, seen}
+use Rattle.nb_cache.specs.View.{Held, CacheValue, Seen, Same, IsDirty, IsWhole, names_of, overlaid, seen}
 use Rattle.nb_cache.specs.Writes.{Writes}
 use Rattle.nb_cache.proofs.Fitting.{fits_marked, fits_rested, fits_moved, moved_view, fits_put, put_view, put_others, fits_loaded, rest_view, fits_at_once, at_once_view, fits_left, left_view, fits_emptied, emptied_view}
 use Rattle.nb_cache.proofs.Torn.{length_overlaid, view_torn}
@@ -37,16 +37,16 @@ module _ {H : Type 0} (m : HostModel H) (cache : CacheValue) {old : H} (after : 
         → Writes m files cache old after new
     writes_same files held more less =
         writes_nothing {m = m} cache {old = old} after {new = new}
-        (λ tells. subst (λ i. Fits after i) (sym (stays_contents leads))
+        (λ tells. subst (λ i. IsCoherent after i) (sym (stays_contents leads))
         (fits_marked cache after (m.contents old) (in_step tells) held more))
         pages count tally files leads less (λ _ file _. seen_same held leads file)
 
     -- the same pages, of which none waits, and no mark
-    pub writes_cleared : after.held ≡ cache.held → ((name : PageName) → Waits cache.held name → ⊥) → after.unwritten ≡ []
+    pub writes_cleared : after.held ≡ cache.held → ((name : PageName) → IsDirty cache.held name → ⊥) → after.unwritten ≡ []
         → Writes m [] cache old after new
     writes_cleared held none cleared =
         writes_nothing {m = m} cache {old = old} after {new = new}
-        (λ tells. subst (λ i. Fits after i) (sym (stays_contents leads))
+        (λ tells. subst (λ i. IsCoherent after i) (sym (stays_contents leads))
         (fits_rested cache after (m.contents old) (in_step tells) held none))
         pages count tally [] leads (λ file has. absurd (Contains-nil file (subst (λ l. Contains l file) cleared has)))
         (λ _ file _. seen_same held leads file)
@@ -56,24 +56,24 @@ module _ {H : Type 0} (m : HostModel H) (cache : CacheValue) {old : H} (after : 
       was file has = subst (λ l. Contains l file) unwritten has
 
       -- a page became the most recently used
-      pub writes_moved : (name : PageName) → IsMoved name cache.held after.held → Writes m [] cache old after new
+      pub writes_moved : (name : PageName) → IsPromoted name cache.held after.held → Writes m [] cache old after new
       writes_moved name moved =
           writes_nothing {m = m} cache {old = old} after {new = new}
-          (λ tells. subst (λ i. Fits after i) (sym (stays_contents leads))
+          (λ tells. subst (λ i. IsCoherent after i) (sym (stays_contents leads))
           (fits_moved name cache after (m.contents old) moved sound unwritten (in_step tells)))
           pages count tally [] leads was
           (λ _ file _. moved_view name cache.pages cache.held after.held moved sound file ((m.contents new).file file)
           ∙ ap (λ (i : Image). overlaid file cache.held (i.file file)) (stays_contents leads))
 
-      module _ (k : PageName) (bytes : List ℕ) (full : length bytes ≡ PAGE_SIZE) (place : IsCacheable k) (room : SparesWaiting k cache.pages cache.held) where
+      module _ (k : PageName) (bytes : List ℕ) (full : length bytes ≡ PAGE_SIZE) (place : IsCacheable k) (room : SparesDirty k cache.pages cache.held) where
         -- a page was read in
-        pub writes_loaded : after.held ≡ record { name = k; bytes = bytes; waiting = false } ∷ take (cache.pages - 1) (held_without k cache.held)
+        pub writes_loaded : after.held ≡ record { name = k; bytes = bytes; dirty = false } ∷ take (cache.pages - 1) (held_without k cache.held)
             → (Contains (names_of cache) k → ⊥)
             → (IsTrue m.tells → bytes ≡ page_of ((m.contents old).file k.file) k.page) → Writes m [] cache old after new
         writes_loaded held absent page =
-            let p : Held = record { name = k; bytes = bytes; waiting = false } in
+            let p : Held = record { name = k; bytes = bytes; dirty = false } in
             writes_nothing {m = m} cache {old = old} after {new = new}
-            (λ tells. subst (λ i. Fits after i) (sym (stays_contents leads))
+            (λ tells. subst (λ i. IsCoherent after i) (sym (stays_contents leads))
             (fits_loaded k p refl full place cache after sound room held unwritten refl absent (m.contents old) (page tells)
             (in_step tells)))
             pages count tally [] leads was
@@ -81,15 +81,15 @@ module _ {H : Type 0} (m : HostModel H) (cache : CacheValue) {old : H} (after : 
             ∙ ap (λ (i : Image). overlaid file cache.held (i.file file)) (stays_contents leads))
 
         -- a page was put, and waits
-        module _ (held : after.held ≡ record { name = k; bytes = bytes; waiting = true } ∷ take (cache.pages - 1) (held_without k cache.held)) where
+        module _ (held : after.held ≡ record { name = k; bytes = bytes; dirty = true } ∷ take (cache.pages - 1) (held_without k cache.held)) where
           abbrev late : Held
-          late = record { name = k; bytes = bytes; waiting = true }
+          late = record { name = k; bytes = bytes; dirty = true }
 
           pub writes_put : Contains cache.unwritten k.file → (IsTrue m.tells → page_start k.page ≤ length (seen m cache old k.file))
               → Writes m (k.file ∷ []) cache old after new
           writes_put marked joins =
               writes_nothing {m = m} cache {old = old} after {new = new}
-              (λ tells. subst (λ i. Fits after i) (sym (stays_contents leads))
+              (λ tells. subst (λ i. IsCoherent after i) (sym (stays_contents leads))
               (fits_put k late refl full place cache after sound room held unwritten refl (m.contents old) (joins tells) marked
               (in_step tells)))
               pages count tally (k.file ∷ []) leads (λ file has. Contains-tail k.file cache.unwritten file (was file has))
@@ -112,9 +112,9 @@ module _ {H : Type 0} (m : HostModel H) (cache : CacheValue) {old : H} (after : 
           }
 
 -- a page was placed that rests, and the host wrote it
-module _ {H : Type 0} (m : HostModel H) (cache : CacheValue) {old : H} (kept : CacheValue) {new : H} (in_step : IsInStep m cache old) (k : PageName) (bytes : List ℕ) (full : length bytes ≡ PAGE_SIZE) (place : IsCacheable k) (room : SparesWaiting k cache.pages cache.held) (sound : AreResident cache.pages cache.held) (held : kept.held ≡ record { name = k; bytes = bytes; waiting = false } ∷ take (cache.pages - 1) (held_without k cache.held)) (unwritten : kept.unwritten ≡ cache.unwritten) (absent : Contains (names_of cache) k → ⊥) (leads : Leads m (FileBecomes k.file (IsTorn (page_start k.page) (length bytes))) old new) where
+module _ {H : Type 0} (m : HostModel H) (cache : CacheValue) {old : H} (kept : CacheValue) {new : H} (in_step : IsInStep m cache old) (k : PageName) (bytes : List ℕ) (full : length bytes ≡ PAGE_SIZE) (place : IsCacheable k) (room : SparesDirty k cache.pages cache.held) (sound : AreResident cache.pages cache.held) (held : kept.held ≡ record { name = k; bytes = bytes; dirty = false } ∷ take (cache.pages - 1) (held_without k cache.held)) (unwritten : kept.unwritten ≡ cache.unwritten) (absent : Contains (names_of cache) k → ⊥) (leads : Leads m (FileBecomes k.file (IsTorn (page_start k.page) (length bytes))) old new) where
   abbrev rest : Held
-  rest = record { name = k; bytes = bytes; waiting = false }
+  rest = record { name = k; bytes = bytes; dirty = false }
 
   torn : IsTrue m.tells → FileBecomes k.file (IsTorn (page_start k.page) PAGE_SIZE) (m.contents old) (m.contents new)
   torn tells =

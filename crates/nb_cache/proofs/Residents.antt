@@ -10,9 +10,9 @@ use Rattle.lru.proofs.CallerLemmas.{Contains-promoted, Contains-lookup, Contains
 use Rattle.lru.proofs.Splits.{Contains-head, Contains-tail, Contains-cons, Contains-nil}
 use Rattle.nb_host.specs.Page.{same_page}
 use Rattle.nb_cache.specs.InStep.{IsCacheable}
-use Rattle.nb_cache.specs.Names.{without, used, held_without, settled, IsMoved}
+use Rattle.nb_cache.specs.Names.{without, used, held_without, with_clean, IsPromoted}
 use Rattle.nb_cache.specs.Stock.{Stock, held_of}
-use Rattle.nb_cache.specs.View.{Held, Waits, held_names, shown}
+use Rattle.nb_cache.specs.View.{Held, IsDirty, held_names, resident_bytes}
 use Rattle.nb_cache.specs.Sound.{AreResident}
 use Rattle.nb_cache.specs.declared.frame.Frame.{Frame}
 use Rattle.nb_host.proofs.Callers.{same_page_eq, same_page_apart}
@@ -20,7 +20,7 @@ use Rattle.nb_cache.proofs.Pages.{others, found_key, promoted-others, keys-promo
 use Rattle.nb_cache.proofs.Overlays.{without_has, one_of_name, there_or_lacks}
 use Rattle.nb_cache.proofs.Laying.{settled_has, settled_lacking}
 use Rattle.nb_cache.proofs.Fitting.{name_there}
-use Rattle.nb_cache.proofs.Entries.{held, held_of-settled, stock_of, Contains-held, Contains-held_more, names_of-held, Contains-to_held, held_of-others, held_of-take, sound}
+use Rattle.nb_cache.proofs.Entries.{held, held_of-with_clean, stock_of, Contains-held, Contains-held_more, names_of-held, Contains-to_held, held_of-others, held_of-take, sound}
 
 -- whether a look-up finds a pair
 pub found_entry : {V : Type 0} (k : PageName) (es : List (PageName × V))
@@ -60,9 +60,9 @@ found_of_key k (e ∷ es) has = (elim (same_page k e.0) as (λ y. same_page k e.
 
 -- what a look-up finds is what the page shows
 pub shown_found : (k : PageName) (es : List (PageName × Frame))
-    → option_map (λ (f : Frame). f.bytes.items) (lookup (same_page k) es) ≡ shown (held_of es) k
+    → option_map (λ (f : Frame). f.bytes.items) (lookup (same_page k) es) ≡ resident_bytes (held_of es) k
 shown_found k [] = refl
-shown_found k (e ∷ es) = (elim (same_page k e.0) as (λ y. same_page k e.0 ≡ y → option_map (λ (f : Frame). f.bytes.items) (lookup (same_page k) (e ∷ es)) ≡ shown (held_of (e ∷ es)) k) [
+shown_found k (e ∷ es) = (elim (same_page k e.0) as (λ y. same_page k e.0 ≡ y → option_map (λ (f : Frame). f.bytes.items) (lookup (same_page k) (e ∷ es)) ≡ resident_bytes (held_of (e ∷ es)) k) [
   | true ↦ λ here. rw here refl
   | false ↦ λ here. rw here (shown_found k es)
 ]) refl
@@ -84,8 +84,8 @@ module _ (frames : LruCache PageName Frame) (spare room : ℕ) (old : Stock) (sh
   found_resident k has = found_of_key k frames.entries (subst (λ l. Contains l k) old_names has)
 
   pub page_shown : (k : PageName)
-      → option_map (λ (f : Frame). f.bytes.items) (lookup (same_page k) frames.entries) ≡ shown old.held k
-  page_shown k = shown_found k frames.entries ∙ ap (λ (s : Stock). shown s.held k) shows
+      → option_map (λ (f : Frame). f.bytes.items) (lookup (same_page k) frames.entries) ≡ resident_bytes old.held k
+  page_shown k = shown_found k frames.entries ∙ ap (λ (s : Stock). resident_bytes s.held k) shows
 
   pub lent_page : (k : PageName) (frame : Frame) → lookup (same_page k) frames.entries ≡ Some frame
       → Contains old.held (held (k, frame))
@@ -125,7 +125,7 @@ module _ (frames : LruCache PageName Frame) (spare room : ℕ) (old : Stock) (sh
           (subst (λ (l : LruCache PageName Frame). Contains (held_of l.entries) h) moved has))
 
       pub promoted_held : IsValid same_page frames → is_some (lookup (same_page k) frames.entries) ≡ true
-          → IsMoved k old.held (held_of m.entries)
+          → IsPromoted k old.held (held_of m.entries)
       promoted_held valid found =
           let one = found_entry k frames.entries found in
           let has = Contains-lookup_entry (same_page k) frames.entries one.0 one.1 in
@@ -192,11 +192,11 @@ module _ (frames : LruCache PageName Frame) (spare room : ℕ) (old : Stock) (sh
           (without_has k old.held h (subst (λ l. Contains l h) gone_held has)).0)
 
   -- a page that no longer waits
-  module _ (k : PageName) (frame after : Frame) (there : lookup (same_page k) frames.entries ≡ Some frame) (bytes : after.bytes.items ≡ frame.bytes.items) (rests : after.waiting ≡ false) (valid : IsValid same_page frames) where
-    pub settled_held : held_of (set_value (same_page k) frames.entries after) ≡ settled k old.held
+  module _ (k : PageName) (frame after : Frame) (there : lookup (same_page k) frames.entries ≡ Some frame) (bytes : after.bytes.items ≡ frame.bytes.items) (rests : after.dirty ≡ false) (valid : IsValid same_page frames) where
+    pub settled_held : held_of (set_value (same_page k) frames.entries after) ≡ with_clean k old.held
     settled_held =
-        held_of-settled k frames.entries frame after valid.0 there bytes rests
-        ∙ ap (λ (s : Stock). settled k s.held) shows
+        held_of-with_clean k frames.entries frame after valid.0 there bytes rests
+        ∙ ap (λ (s : Stock). with_clean k s.held) shows
 
     pub settled_places : ((h : Held) → Contains (held_of frames.entries) h → IsCacheable h.name)
         → (h : Held) → Contains (held_of (set_value (same_page k) frames.entries after)) h → IsCacheable h.name
@@ -207,12 +207,12 @@ module _ (frames : LruCache PageName Frame) (spare room : ℕ) (old : Stock) (sh
     ]
 
   -- a name that isn't found is no resident page's
-  pub none_waits : (k : PageName) → is_some (lookup (same_page k) frames.entries) ≡ false → Waits old.held k → ⊥
+  pub none_waits : (k : PageName) → is_some (lookup (same_page k) frames.entries) ≡ false → IsDirty old.held k → ⊥
   none_waits k absent one =
       let has = subst (Contains (held_names old.held)) one.named (name_there old.held one.page one.there) in
       let two : false ≡ true = sym absent ∙ found_resident k has in (cc)
 
-  pub settled_none : (k : PageName) → is_some (lookup (same_page k) frames.entries) ≡ false → settled k old.held ≡ old.held
+  pub settled_none : (k : PageName) → is_some (lookup (same_page k) frames.entries) ≡ false → with_clean k old.held ≡ old.held
   settled_none k absent = elim (there_or_lacks k old.held) [
     | inr lacks ↦ settled_lacking k old.held lacks
     | inl one ↦
@@ -220,37 +220,37 @@ module _ (frames : LruCache PageName Frame) (spare room : ℕ) (old : Stock) (sh
         let two : false ≡ true = sym absent ∙ found_resident k has in absurd (cc)
   ]
 
-  -- a page that is found and rests doesn't wait
+  -- a page that is found and clean isn't dirty
   pub rests_then : (k : PageName) (frame : Frame) → IsValid same_page frames
       → ((h : Held) → Contains (held_of frames.entries) h → IsCacheable h.name)
-      → lookup (same_page k) frames.entries ≡ Some frame → frame.waiting ≡ false → Waits old.held k → ⊥
+      → lookup (same_page k) frames.entries ≡ Some frame → frame.dirty ≡ false → IsDirty old.held k → ⊥
   rests_then k frame valid places there rests one =
       let here = lent_page k frame there in
       let same = one_of_name old.held one.page (held (k, frame)) (sound_now valid places).distinct one.there here one.named in
-      let two : true ≡ false = sym one.waiting ∙ ap (λ (h : Held). h.waiting) same ∙ rests in (cc)
+      let two : true ≡ false = sym one.dirty ∙ ap (λ (h : Held). h.dirty) same ∙ rests in (cc)
 
-  -- the names of those that wait
-  pub waiting_name : (k : PageName) → Waits old.held k
-      → Contains (map (λ e. e.0) (filter (λ e. e.1.waiting) frames.entries)) k
-  waiting_name k one =
+  -- the names of the dirty pages
+  pub dirty_name : (k : PageName) → IsDirty old.held k
+      → Contains (map (λ e. e.0) (filter (λ e. e.1.dirty) frames.entries)) k
+  dirty_name k one =
       let pair = Contains-held frames.entries one.page
       (subst (λ (s : Stock). Contains s.held one.page) (sym shows) one.there) in
-      subst (Contains (map (λ (e : PageName × Frame). e.0) (filter (λ (e : PageName × Frame). e.1.waiting) frames.entries)))
+      subst (Contains (map (λ (e : PageName × Frame). e.0) (filter (λ (e : PageName × Frame). e.1.dirty) frames.entries)))
       (ap (λ (h : Held). h.name) pair.2 ∙ one.named)
-      (there frames.entries pair.0 pair.1 (ap (λ (h : Held). h.waiting) pair.2 ∙ one.waiting))
+      (there frames.entries pair.0 pair.1 (ap (λ (h : Held). h.dirty) pair.2 ∙ one.dirty))
     where
-      there : (es : List (PageName × Frame)) (e : PageName × Frame) → Contains es e → e.1.waiting ≡ true
-          → Contains (map (λ (e : PageName × Frame). e.0) (filter (λ (e : PageName × Frame). e.1.waiting) es)) e.0
+      there : (es : List (PageName × Frame)) (e : PageName × Frame) → Contains es e → e.1.dirty ≡ true
+          → Contains (map (λ (e : PageName × Frame). e.0) (filter (λ (e : PageName × Frame). e.1.dirty) es)) e.0
       there [] e has waits = absurd (Contains-nil e has)
-      there (f ∷ es) e has waits = (elim f.1.waiting as (λ y. f.1.waiting ≡ y → Contains (map (λ (e : PageName × Frame). e.0) (filter (λ (e : PageName × Frame). e.1.waiting) (f ∷ es))) e.0) [
+      there (f ∷ es) e has waits = (elim f.1.dirty as (λ y. f.1.dirty ≡ y → Contains (map (λ (e : PageName × Frame). e.0) (filter (λ (e : PageName × Frame). e.1.dirty) (f ∷ es))) e.0) [
         | true ↦ λ is. rw is (elim (Contains-cons f es e has) [
-          | inl same ↦ subst (λ (g : PageName × Frame). Contains (f.0 ∷ map (λ (e : PageName × Frame). e.0) (filter (λ (e : PageName × Frame). e.1.waiting) es)) g.0)
-              same (Contains-head f.0 (map (λ (e : PageName × Frame). e.0) (filter (λ (e : PageName × Frame). e.1.waiting) es)))
-          | inr rest ↦ Contains-tail f.0 (map (λ (e : PageName × Frame). e.0) (filter (λ (e : PageName × Frame). e.1.waiting) es)) e.0
+          | inl same ↦ subst (λ (g : PageName × Frame). Contains (f.0 ∷ map (λ (e : PageName × Frame). e.0) (filter (λ (e : PageName × Frame). e.1.dirty) es)) g.0)
+              same (Contains-head f.0 (map (λ (e : PageName × Frame). e.0) (filter (λ (e : PageName × Frame). e.1.dirty) es)))
+          | inr rest ↦ Contains-tail f.0 (map (λ (e : PageName × Frame). e.0) (filter (λ (e : PageName × Frame). e.1.dirty) es)) e.0
               (there es e rest waits)
         ])
         | false ↦ λ none. rw none (elim (Contains-cons f es e has) [
-          | inl same ↦ let two : false ≡ true = sym none ∙ ap (λ (g : PageName × Frame). g.1.waiting) same ∙ waits in absurd (cc)
+          | inl same ↦ let two : false ≡ true = sym none ∙ ap (λ (g : PageName × Frame). g.1.dirty) same ∙ waits in absurd (cc)
           | inr rest ↦ there es e rest waits
         ])
       ]) refl

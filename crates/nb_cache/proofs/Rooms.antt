@@ -5,7 +5,7 @@ use Rattle.lru.proofs.Splits.{Contains-head, Contains-tail, Contains-cons, Conta
 use Rattle.nb_host.specs.Page.{same_page}
 use Rattle.nb_host.specs.declared.page_name.PageName.{PageName}
 use Rattle.nb_host.proofs.Callers.{same_page_apart}
-use Rattle.nb_cache.specs.Names.{held_without, settled, SparesWaiting}
+use Rattle.nb_cache.specs.Names.{held_without, with_clean, SparesDirty}
 use Rattle.nb_cache.specs.Sound.{AreResident}
 use Rattle.nb_cache.specs.View.{Held, held_names}
 use Rattle.nb_cache.proofs.Fitting.{name_there}
@@ -31,18 +31,18 @@ shorter k (g ∷ held) h has named = (elim (same_page k g.name) as (λ y. same_p
   ])
 ]) refl
 
-none_leaves : (name : PageName) (pages : ℕ) (held : List Held) → length (held_without name held) ≤ pages - 1 → SparesWaiting name pages held
+none_leaves : (name : PageName) (pages : ℕ) (held : List Held) → length (held_without name held) ≤ pages - 1 → SparesDirty name pages held
 none_leaves name pages held few = record {
   leaves = λ h has.
       absurd (Contains-nil h (subst (λ l. Contains l h) (drop_all (pages - 1) (held_without name held) few) has));
 }
 
-pub room_few : (name : PageName) (pages : ℕ) (held : List Held) → length (held_names held) < pages → SparesWaiting name pages held
+pub room_few : (name : PageName) (pages : ℕ) (held : List Held) → length (held_names held) < pages → SparesDirty name pages held
 room_few name pages held few =
     none_leaves name pages held (omega (arith, few, length-map held (λ (h : Held). h.name), length_without name held))
 
 pub room_resident : (name : PageName) (pages : ℕ) (held : List Held) → AreResident pages held → Contains (held_names held) name
-    → SparesWaiting name pages held
+    → SparesDirty name pages held
 room_resident name pages held sound has =
     let one = named held has in
     none_leaves name pages held
@@ -57,7 +57,7 @@ room_resident name pages held sound has =
 
 -- no page is the last
 pub room_none : (name : PageName) (pages : ℕ) (held : List Held) → 0 < pages
-    → None ≡ slice_get (held_names held) (length (held_names held) - 1) → SparesWaiting name pages held
+    → None ≡ slice_get (held_names held) (length (held_names held) - 1) → SparesDirty name pages held
 room_none name pages held positive none = elim (some (length (held_names held))) [
   | inl zero_long ↦ room_few name pages held (omega (arith, zero_long, positive))
   | inr more ↦ absurd (is_some_last (held_names held) more (sym none))
@@ -86,32 +86,32 @@ last_only (x ∷ y ∷ ys) last h is has =
 -- the last page was written
 pub room_settled : (name : PageName) (pages : ℕ) (old new : List Held) (last : PageName) → AreResident pages old
     → pages ≤ length (held_names old) → (Contains (held_names old) name → ⊥)
-    → Some last ≡ slice_get (held_names old) (length (held_names old) - 1) → new ≡ settled last old → SparesWaiting name pages new
+    → Some last ≡ slice_get (held_names old) (length (held_names old) - 1) → new ≡ with_clean last old → SparesDirty name pages new
 room_settled name pages old new last sound full absent is settles = record {
   leaves = λ h has.
-      let lacks : Lacks name (settled last old) = elim (there_or_lacks name (settled last old)) [
+      let lacks : Lacks name (with_clean last old) = elim (there_or_lacks name (with_clean last old)) [
         | inl one ↦ absurd (absent (subst (Contains (held_names old)) one.2
-            (subst (λ l. Contains l one.0.name) (settled_names last old) (name_there (settled last old) one.0 one.1))))
+            (subst (λ l. Contains l one.0.name) (settled_names last old) (name_there (with_clean last old) one.0 one.1))))
         | inr lacks ↦ lacks
       ] in
-      let whole : held_without name new ≡ settled last old =
-      ap (held_without name) settles ∙ without_lacking name (settled last old) lacks in
-      let long : pages - 1 ≡ length (settled last old) - 1 =
+      let whole : held_without name new ≡ with_clean last old =
+      ap (held_without name) settles ∙ without_lacking name (with_clean last old) lacks in
+      let long : pages - 1 ≡ length (with_clean last old) - 1 =
       omega (
         arith,
         full,
         sound.bound,
-        length-map (settled last old) (λ (g : Held). g.name),
+        length-map (with_clean last old) (λ (g : Held). g.name),
         ap (λ l. length l) (settled_names last old),
       ) in
-      let there : Contains (drop (length (settled last old) - 1) (settled last old)) h =
-      subst (λ n. Contains (drop n (settled last old)) h) long (subst (λ l. Contains (drop (pages - 1) l) h) whole has) in
+      let there : Contains (drop (length (with_clean last old) - 1) (with_clean last old)) h =
+      subst (λ n. Contains (drop n (with_clean last old)) h) long (subst (λ l. Contains (drop (pages - 1) l) h) whole has) in
       let named : h.name ≡ last =
-      last_only (settled last old) last h
+      last_only (with_clean last old) last h
       (is ∙ ap (λ l. slice_get l (length l - 1)) (sym (settled_names last old))) there in
-      elim (settled_has last old h (within (length (settled last old) - 1) (settled last old) h there)) [
+      elim (settled_has last old h (within (length (with_clean last old) - 1) (with_clean last old) h there)) [
         | inl one ↦ absurd (same_page_apart last h.name one.1 (sym named))
-        | inr one ↦ ap (λ (g : Held). g.waiting) one.3
+        | inr one ↦ ap (λ (g : Held). g.dirty) one.3
       ];
 }
   where

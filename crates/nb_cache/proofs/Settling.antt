@@ -6,7 +6,7 @@ use Rattle.nb_host.specs.Page.{page_start}
 use Rattle.nb_host.specs.declared.page_name.PageName.{PageName}
 use Rattle.nb_host.specs.declared.page_name.TheConstants.{PAGE_SIZE}
 use Rattle.nb_cache.specs.InStep.{IsInStep}
-use Rattle.nb_cache.specs.Names.{settled}
+use Rattle.nb_cache.specs.Names.{with_clean}
 use Rattle.nb_cache.specs.Sound.{AreResident}
 use Rattle.nb_cache.specs.View.{Held, CacheValue}
 use Rattle.nb_cache.specs.Writes.{Writes}
@@ -14,7 +14,7 @@ use Rattle.nb_cache.proofs.Fitting.{fits_under, fits_settled, view_stays, settle
 use Rattle.nb_cache.proofs.Writing.{writes_late}
 
 abbrev pub page : PageName → List ℕ → Held
-page name bytes = record { name = name; bytes = bytes; waiting = true }
+page name bytes = record { name = name; bytes = bytes; dirty = true }
 
 module _ {H : Type 0} (m : HostModel H) (cache : CacheValue) (old new : H) (k : PageName) (bytes : List ℕ) (has : Contains cache.held (page k bytes)) (sound : AreResident cache.pages cache.held) (in_step : IsInStep m cache old) (leads : Leads m (FileBecomes k.file (IsTorn (page_start k.page) (length bytes))) old new) (count : m.faults old ≤ m.faults new) (tally : m.tally new ≡ m.tally old) where
   torn : IsTrue m.tells → FileBecomes k.file (IsTorn (page_start k.page) PAGE_SIZE) (m.contents old) (m.contents new)
@@ -32,7 +32,7 @@ module _ {H : Type 0} (m : HostModel H) (cache : CacheValue) (old new : H) (k : 
       refl refl file)
 
   -- it was written, and no longer waits
-  pub writes_settled : (after : CacheValue) → after.held ≡ settled k cache.held → after.unwritten ≡ cache.unwritten
+  pub writes_settled : (after : CacheValue) → after.held ≡ with_clean k cache.held → after.unwritten ≡ cache.unwritten
       → after.pages ≡ cache.pages
       → Over m (FileBecomes k.file (IsOverwritten (page_start k.page) bytes)) old new → Writes m [] cache old after new
   writes_settled after held unwritten pages wrote =

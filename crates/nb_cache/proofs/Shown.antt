@@ -6,12 +6,12 @@ use Rattle.nb_host.specs.Page.{page_of, same_page}
 use Rattle.nb_host.specs.declared.page_name.PageName.{PageName}
 use Rattle.nb_host.specs.declared.page_name.TheConstants.{PAGE_SIZE}
 use Rattle.nb_host.proofs.Callers.{same_page_eq, same_page_apart}
-use Rattle.nb_cache.specs.InStep.{Fits}
+use Rattle.nb_cache.specs.InStep.{IsCoherent}
 use Rattle.nb_cache.specs.Sound.{AreResident}
-use Rattle.nb_cache.specs.View.{Held, CacheValue, held_names, shown, view_of}
+use Rattle.nb_cache.specs.View.{Held, CacheValue, held_names, resident_bytes, view_of}
 use Rattle.nb_cache.proofs.Fitting.{held_page}
 
-shown_has : (held : List Held) (name : PageName) (bytes : List ℕ) → shown held name ≡ Some bytes
+shown_has : (held : List Held) (name : PageName) (bytes : List ℕ) → resident_bytes held name ≡ Some bytes
     → (h : Held) × Contains held h × (h.name ≡ name) × (h.bytes ≡ bytes)
 shown_has [] name bytes is = absurd (cc)
 shown_has (h ∷ held) name bytes is = (elim (same_page name h.name) as (λ y. same_page name h.name ≡ y → (g : Held) × Contains (h ∷ held) g × (g.name ≡ name) × (g.bytes ≡ bytes)) [
@@ -24,8 +24,8 @@ shown_has (h ∷ held) name bytes is = (elim (same_page name h.name) as (λ y. s
 ]) refl
 
 -- what is shown is the view's page
-pub shown_page : (c : CacheValue) (image : Image) (name : PageName) (bytes : List ℕ) → AreResident c.pages c.held → Fits c image
-    → shown c.held name ≡ Some bytes
+pub shown_page : (c : CacheValue) (image : Image) (name : PageName) (bytes : List ℕ) → AreResident c.pages c.held → IsCoherent c image
+    → resident_bytes c.held name ≡ Some bytes
     → (bytes ≡ page_of (view_of c image name.file) name.page) × (length bytes ≡ PAGE_SIZE)
 shown_page c image name bytes sound fits is =
     let one = shown_has c.held name bytes is in (
@@ -35,10 +35,10 @@ shown_page c image name bytes sound fits is =
     )
 
 -- a page is shown where it is resident
-pub shown_where : (held : List Held) (name : PageName) → (Contains (held_names held) name ↔ (shown held name ≢ None))
+pub shown_where : (held : List Held) (name : PageName) → (Contains (held_names held) name ↔ (resident_bytes held name ≢ None))
 shown_where held name = (there held, back held)
   where
-    there : (held : List Held) → Contains (held_names held) name → shown held name ≢ None
+    there : (held : List Held) → Contains (held_names held) name → resident_bytes held name ≢ None
     there [] has none = Contains-nil name has
     there (h ∷ held) has none = (elim (same_page name h.name) as (λ y. same_page name h.name ≡ y → ⊥) [
       | true ↦ λ here. let some : Some h.bytes ≡ None = rw here at none in (cc)
@@ -48,7 +48,7 @@ shown_where held name = (there held, back held)
       ]
     ]) refl
 
-    back : (held : List Held) → shown held name ≢ None → Contains (held_names held) name
+    back : (held : List Held) → resident_bytes held name ≢ None → Contains (held_names held) name
     back [] some = absurd (some refl)
     back (h ∷ held) some = (elim (same_page name h.name) as (λ y. same_page name h.name ≡ y → Contains (held_names (h ∷ held)) name) [
       | true ↦ λ here.

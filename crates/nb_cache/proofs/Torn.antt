@@ -7,7 +7,7 @@ use Rattle.nb_host.specs.Image.{Image, IsTorn}
 use Rattle.nb_host.specs.Page.{HasPage, page_start}
 use Rattle.nb_host.specs.declared.page_name.PageName.{PageName}
 use Rattle.nb_host.specs.declared.page_name.TheConstants.{PAGE_SIZE}
-use Rattle.nb_cache.specs.InStep.{IsCachedFile, Fits}
+use Rattle.nb_cache.specs.InStep.{IsCachedFile, IsCoherent}
 use Rattle.nb_cache.specs.View.{Held, CacheValue, overlaid, view_of}
 use Rattle.nb_cache.proofs.Overlays.{index_in, index_out, in_or_out, page_length, Whole}
 use Rattle.nb_cache.proofs.Laying.{lies, whole_tail}
@@ -27,7 +27,7 @@ covers_tail file i h held one = elim (Contains-cons h held one.page one.there) [
   | inr there ↦ inr (record { page = one.page; there = there; lies = one.lies; low = one.low; high = one.high })
 ]
 
--- what is shown at a byte is the file's there, or a waiting page's
+-- what is shown at a byte is the file's there, or a dirty page's
 pub index_overlaid : (file i : ℕ) (held : List Held) (a b : List ℕ) → Whole held
     → (slice_index a i ≡ slice_index b i) ⊎ Covers file i held
     → slice_index (overlaid file held a) i ≡ slice_index (overlaid file held b) i
@@ -74,7 +74,7 @@ index_overlaid file i (h ∷ held) a b whole either = (elim (lies file h) as (λ
         outside at len i (inl before) low high = omega arith
         outside at len i (inr after) low high = omega arith
 
--- where the last of the waiting pages of a file ends
+-- where the last of the dirty pages of a file ends
 abbrev pub reach : ℕ → List Held → ℕ
 reach file [] = 0
 reach file (h ∷ held) = if lies file h then max (reach file held) (page_start h.name.page + PAGE_SIZE) else reach file held
@@ -138,14 +138,14 @@ reach_least file (g ∷ held) h has there = elim (Contains-cons g held h has) [
       | true ↦ λ is. rw is (omega (arith, less))
     ]) refl
 
-pub lies_of : (file : ℕ) (h : Held) → h.waiting ≡ true → h.name.file ≡ file → lies file h ≡ true
-lies_of file h waits same = both h.waiting h.name.file file waits same
+pub lies_of : (file : ℕ) (h : Held) → h.dirty ≡ true → h.name.file ≡ file → lies file h ≡ true
+lies_of file h waits same = both h.dirty h.name.file file waits same
   where
     both : (w : Bool) (f file : ℕ) → w ≡ true → f ≡ file → (w && (f == file)) ≡ true
     both w f file waits same = grind (arith, nat_tests)
 
--- each byte that a cache shows is the file's, or a waiting page's
-pub inside : (c : CacheValue) (image : Image) (file i : ℕ) → IsCachedFile file → Whole c.held → Fits c image
+-- each byte that a cache shows is the file's, or a dirty page's
+pub inside : (c : CacheValue) (image : Image) (file i : ℕ) → IsCachedFile file → Whole c.held → IsCoherent c image
     → i < length (view_of c image file) → (i < length (image.file file)) ⊎ Covers file i c.held
 inside c image file i cached whole fits within = elim (below_or i (length (image.file file))) [
   | inl less ↦ inl less
@@ -164,7 +164,7 @@ inside c image file i cached whole fits within = elim (below_or i (length (image
         | inr waits ↦ inr (record {
           page = waits.page;
           there = waits.there;
-          lies = lies_of file waits.page waits.waiting (ap (λ (n : PageName). n.file) waits.named);
+          lies = lies_of file waits.page waits.dirty (ap (λ (n : PageName). n.file) waits.named);
           low = subst (λ (n : PageName). page_start n.page ≤ i) (sym waits.named) low;
           high = subst (λ (n : PageName). i < page_start n.page + PAGE_SIZE) (sym waits.named) (omega arith);
         })
@@ -178,7 +178,7 @@ inside c image file i cached whole fits within = elim (below_or i (length (image
     page_before p q i low less = omega arith
 
 -- What is shown after a page was written in part.
-module _ (c : CacheValue) (image : Image) (k : PageName) (after : List ℕ) (cached : IsCachedFile k.file) (whole : Whole c.held) (fits : Fits c image) (torn : IsTorn (page_start k.page) PAGE_SIZE (image.file k.file) after) where
+module _ (c : CacheValue) (image : Image) (k : PageName) (after : List ℕ) (cached : IsCachedFile k.file) (whole : Whole c.held) (fits : IsCoherent c image) (torn : IsTorn (page_start k.page) PAGE_SIZE (image.file k.file) after) where
   same_out : (i : ℕ) → i < length (view_of c image k.file)
       → (i < page_start k.page) ⊎ (page_start k.page + PAGE_SIZE ≤ i)
       → slice_index (overlaid k.file c.held after) i ≡ slice_index (view_of c image k.file) i
@@ -207,7 +207,7 @@ module _ (c : CacheValue) (image : Image) (k : PageName) (after : List ℕ) (cac
       }
 
   -- under a page that waits
-  pub view_under : (h : Held) → Contains c.held h → h.name ≡ k → h.waiting ≡ true
+  pub view_under : (h : Held) → Contains c.held h → h.name ≡ k → h.dirty ≡ true
       → overlaid k.file c.held after ≡ view_of c image k.file
   view_under h has named waits =
       let lies_there : lies k.file h ≡ true = lies_of k.file h waits (ap (λ (n : PageName). n.file) named) in

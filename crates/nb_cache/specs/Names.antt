@@ -22,16 +22,16 @@ without_file file names = filter (λ n. not (n.file == file)) names
 abbrev pub held_without : PageName → List Held → List Held
 held_without name held = filter (λ h. not (same_page name h.name)) held
 
--- a page that no longer waits
-abbrev pub rested : Held → Held
-rested h = record { name = h.name; bytes = h.bytes; waiting = false }
+-- the page, written
+abbrev pub cleaned_page : Held → Held
+cleaned_page h = record { name = h.name; bytes = h.bytes; dirty = false }
 
--- the resident pages, where this one no longer waits
-abbrev pub settled : PageName → List Held → List Held
-settled name held = map (λ h. if same_page name h.name then rested h else h) held
+-- the resident pages, where this one is written
+abbrev pub with_clean : PageName → List Held → List Held
+with_clean name held = map (λ h. if same_page name h.name then cleaned_page h else h) held
 
 -- a resident page became the most recently used
-pub record IsMoved (name : PageName) (old new : List Held) : Type 0 where
+pub record IsPromoted (name : PageName) (old new : List Held) : Type 0 where
   pub page : Held
   pub there : Contains old page
   pub named : page.name ≡ name
@@ -43,6 +43,6 @@ pub record IsWithoutFile (file : ℕ) (old new : List Held) : Type 0 where
   pub others : (h : Held) → Contains old h → h.name.file ≢ file → Contains new h
   pub view : (other : ℕ) (bytes : List ℕ) → other ≢ file → overlaid other new bytes ≡ overlaid other old bytes
 
--- In a cache of so many pages, no page that waits leaves for this one.
-pub record SparesWaiting (name : PageName) (pages : ℕ) (held : List Held) : Type 0 where
-  pub leaves : (h : Held) → Contains (drop (pages - 1) (held_without name held)) h → h.waiting ≡ false
+-- In a cache of so many pages, no dirty page leaves for this one.
+pub record SparesDirty (name : PageName) (pages : ℕ) (held : List Held) : Type 0 where
+  pub leaves : (h : Held) → Contains (drop (pages - 1) (held_without name held)) h → h.dirty ≡ false

@@ -19,4 +19,4 @@ pub record HasFrames (frames : ℕ) (s : Stock) : Type 0 where
 
 -- the resident pages, from the pairs of the map
 abbrev pub held_of : List (PageName × Frame) → List Held
-held_of es = map (λ e. record { name = e.0; bytes = e.1.bytes.items; waiting = e.1.waiting }) es
+held_of es = map (λ e. record { name = e.0; bytes = e.1.bytes.items; dirty = e.1.dirty }) es

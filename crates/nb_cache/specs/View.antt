@@ -6,11 +6,11 @@ use Rattle.nb_host.specs.Meaning.{HostModel}
 use Rattle.nb_host.specs.Page.{HasPage, page_start, same_page}
 use Rattle.nb_host.specs.declared.page_name.PageName.{PageName}
 
--- a resident page, and whether it waits to be written
+-- a resident page, and whether it is dirty: still to be written
 pub record Held : Type 0 where
   pub name : PageName
   pub bytes : List ℕ
-  pub waiting : Bool
+  pub dirty : Bool
 
 -- The most pages, the resident ones, the most recently used first, and the files that were put into since they were last
 -- flushed or emptied.
@@ -26,25 +26,25 @@ abbrev pub names_of : CacheValue → List PageName
 names_of c = held_names c.held
 
 -- the bytes of a resident page
-abbrev pub shown : List Held → PageName → Option (List ℕ)
-shown [] name = None
-shown (h ∷ held) name = if same_page name h.name then Some h.bytes else shown held name
+abbrev pub resident_bytes : List Held → PageName → Option (List ℕ)
+resident_bytes [] name = None
+resident_bytes (h ∷ held) name = if same_page name h.name then Some h.bytes else resident_bytes held name
 
--- a page waits to be written
-pub record Waits (held : List Held) (name : PageName) : Type 0 where
+-- a page is dirty
+pub record IsDirty (held : List Held) (name : PageName) : Type 0 where
   pub page : Held
   pub there : Contains held page
   pub named : page.name ≡ name
-  pub waiting : page.waiting ≡ true
+  pub dirty : page.dirty ≡ true
 
--- a file's bytes with its waiting pages laid over them
+-- a file's bytes with its dirty pages laid over them
 abbrev pub overlaid : ℕ → List Held → List ℕ → List ℕ
 overlaid file [] bytes = bytes
 overlaid file (h ∷ held) bytes =
-    if h.waiting && (h.name.file == file) then overwritten (page_start h.name.page) h.bytes (overlaid file held bytes)
+    if h.dirty && (h.name.file == file) then overwritten (page_start h.name.page) h.bytes (overlaid file held bytes)
     else overlaid file held bytes
 
--- a file as the cache shows it: the host's, with the waiting pages laid over it
+-- a file as the cache shows it: the host's, with the dirty pages laid over it
 abbrev pub view_of : CacheValue → Image → ℕ → List ℕ
 view_of c image file = overlaid file c.held (image.file file)
 

@@ -1,7 +1,7 @@
 -- What calls that take a cache leave alone, and what they owe to the counts.
 use Rattle.std.specs.Prelude.{◌≡◌, ◌≢◌, ℕ, ◌≤◌, IsTrue, List, ◌++◌, Contains, Result, Err}
 use Rattle.nb_host.specs.Crashes.{AgreesOutside}
-use Rattle.nb_host.specs.Meaning.{HostModel, Leads, Stopped}
+use Rattle.nb_host.specs.Meaning.{HostModel, Leads, HaltedAtFault}
 use Rattle.nb_cache.specs.View.{CacheValue, seen}
 use Rattle.nb_cache.specs.InStep.{IsInStep}
 
@@ -23,5 +23,5 @@ pub record Writes {H : Type 0} (m : HostModel H) (files : List ℕ) (old_cache :
 -- calls of the host came to an end at one, and every other answer where there was none.
 pub record RanCached {H T E : Type 0} (m : HostModel H) (fault : E) (files : List ℕ) (old_cache : CacheValue) (old : H) (new_cache : CacheValue) (new : H) (result : Result T E) : Type 0 where
   pub writes : Writes m files old_cache old new_cache new
-  pub rose : result ≡ Err fault → Stopped m old new
+  pub rose : result ≡ Err fault → HaltedAtFault m old new
   pub spared : result ≢ Err fault → m.faults new ≡ m.faults old

@@ -7,10 +7,10 @@ ghost use Rattle.nb_host.specs.Image.{Image, IsOverwritten, IsTorn, IsPartlyCut}
 ghost use Rattle.nb_host.specs.Meaning.{Ran};
 ghost use Rattle.nb_host.specs.Page.{IsRising, page_of, page_start};
 ghost use Rattle.nb_host.specs.declared.page_name.PageName.{PageName as PageNames};
-ghost use Rattle.nb_cache.specs.Names.{used, without_file, held_without, settled, SparesWaiting};
-ghost use Rattle.nb_cache.specs.InStep.{IsCachedFile, IsCacheable, IsInStep, Fits};
+ghost use Rattle.nb_cache.specs.Names.{used, without_file, held_without, with_clean, SparesDirty};
+ghost use Rattle.nb_cache.specs.InStep.{IsCachedFile, IsCacheable, IsInStep, IsCoherent};
 ghost use Rattle.nb_cache.specs.Sound.{AreResident};
-ghost use Rattle.nb_cache.specs.View.{names_of, shown, view_of, seen, Seen, Same, IsWhole, IsFirstShort};
+ghost use Rattle.nb_cache.specs.View.{names_of, resident_bytes, view_of, seen, Seen, Same, IsWhole, IsFirstShort};
 ghost use Rattle.nb_cache.specs.Writes.{RanCached};
 
 use crate::cache_error::CacheError;
@@ -22,7 +22,7 @@ use nb_model::NoMemory;
 use std::alloc::Global;
 use std::marker::Model;
 
-/// A bounded cache of pages that lends their bytes. It writes late: a page that was put waits in its frame
+/// A bounded cache of pages that lends their bytes. It writes late: a page that was put is dirty in its frame
 /// until it leaves the cache or its file is flushed.
 #[derive(Drop)]
 pub struct Cache {
@@ -54,7 +54,7 @@ impl Cache {
         requires least { 4 ≤ pages }
         requires most { pages ≤ 2 ^ 18 }
         ensures value { IfOk result (λ c. c ≡ record { pages = pages; held = []; unwritten = [] }) }
-        ensures fits { IfOk result (λ c. (image : Image) → Fits c image) }
+        ensures fits { IfOk result (λ c. (image : Image) → IsCoherent c image) }
     {
         let frames = Frames::new(alloc, pages)?;
         Ok(Cache {
@@ -69,11 +69,11 @@ impl Cache {
         ensures value { result ≡ self.now.pages }
         ensures least { 4 ≤ result }
         ensures most { result ≤ 2 ^ 18 }
-        ensures shown { (image : Image) (name : PageNames) (bytes : List ℕ) → Fits self.now image
-            → shown self.now.held name ≡ Some bytes
+        ensures shown { (image : Image) (name : PageNames) (bytes : List ℕ) → IsCoherent self.now image
+            → resident_bytes self.now.held name ≡ Some bytes
             → (bytes ≡ page_of (view_of self.now image name.file) name.page) × (length bytes ≡ PAGE_SIZE) }
         ensures resident { (name : PageNames) → (Contains (names_of self.now) name
-            ↔ (shown self.now.held name ≢ None)) }
+            ↔ (resident_bytes self.now.held name ≢ None)) }
     {
         let _ = self.len();
         self.frames.pages()
@@ -90,9 +90,9 @@ impl Cache {
     /// The bytes of a page as the view has them, or None where it isn't resident.
     pub fn lent(&self, name: PageName) -> Option<&[u8]>
         ensures resident { IsSome result ↔ Contains (names_of self.now) name }
-        ensures shown { option_map (λ bytes. bytes.now) result ≡ shown self.now.held name }
+        ensures shown { option_map (λ bytes. bytes.now) result ≡ resident_bytes self.now.held name }
         ensures whole { IfSome result (λ bytes. length bytes.now ≡ PAGE_SIZE) }
-        ensures view { (image : Image) → Fits self.now image → IfSome result (λ bytes.
+        ensures view { (image : Image) → IsCoherent self.now image → IfSome result (λ bytes.
             bytes.now ≡ page_of (view_of self.now image name.file) name.page) }
     {
         self.frames.lent(name)
@@ -157,8 +157,8 @@ impl Cache {
         self.lay(host, name, bytes, joins)
     }
 
-    /// Writes the pages that wait to be written, by file and page, each once. After a refusal those that are
-    /// left still wait.
+    /// Writes the dirty pages, by file and page, each once. After a refusal those that are
+    /// left are still dirty.
     pub fn flush<H: Host>(&mut self, host: &mut H) -> Result<(), CacheError>
         requires { IsInStep H.meaning self.old host.old }
         ensures resident { names_of self.new ≡ names_of self.old }
@@ -171,7 +171,7 @@ impl Cache {
         ensures ran { RanCached H.meaning CacheError.Fault [] self.old host.old self.new host.new result }
     {
         let _ = self.len();
-        let names = self.frames.names_waiting()?;
+        let names = self.frames.dirty_names()?;
         for &name in &names {
             self.settle(host, name)?;
         }
@@ -179,7 +179,7 @@ impl Cache {
         Ok(())
     }
 
-    /// Empties a file, in the view and on the host. None of its pages stays resident, and those that waited
+    /// Empties a file, in the view and on the host. None of its pages stays resident, and those that were dirty
     /// are never written. After Fault the file may have any length up to its old one, and hold anything.
     pub fn empty<H: Host>(&mut self, host: &mut H, file: u64) -> Result<(), CacheError>
         requires cached { IsCachedFile file }
@@ -241,7 +241,7 @@ impl Cache {
     fn read_in<H: Host>(&mut self, host: &mut H, name: PageName) -> Result<(), CacheError>
         requires name { IsCacheable name }
         requires absent { Contains (names_of self.old) name → ⊥ }
-        requires room { SparesWaiting name self.old.pages self.old.held }
+        requires room { SparesDirty name self.old.pages self.old.held }
         requires in_step { IsInStep H.meaning self.old host.old }
         ensures resident { OnOk result (names_of self.new
             ≡ used self.old.pages (name ∷ []) (names_of self.old)) }
@@ -258,7 +258,7 @@ impl Cache {
         let mut frame = self.frames.take();
         match load(host, name, &mut frame) {
             Ok(()) => {
-                frame.wait(false);
+                frame.mark(false);
                 self.frames.place(name, frame)?;
                 Ok(())
             }
@@ -299,11 +299,11 @@ impl Cache {
         Ok(name.page * PAGE_SIZE as u64 <= len)
     }
 
-    /// Writes the page that has to leave for this one, where it waits.
+    /// Writes the page that has to leave for this one, where it is dirty.
     fn make_room<H: Host>(&mut self, host: &mut H, name: PageName) -> Result<(), CacheError>
         requires in_step { IsInStep H.meaning self.old host.old }
         ensures resident { names_of self.new ≡ names_of self.old }
-        ensures room { OnOk result (SparesWaiting name self.new.pages self.new.held) }
+        ensures room { OnOk result (SparesDirty name self.new.pages self.new.held) }
         ensures unwritten { self.new.unwritten ≡ self.old.unwritten }
         ensures sound { AreResident self.new.pages self.new.held }
         ensures host_refusal { (other : PageNames) → result ≢ Err (CacheError.Short other) }
@@ -322,11 +322,11 @@ impl Cache {
         Ok(())
     }
 
-    /// Writes a page where it waits. Where that fails it still waits.
+    /// Writes a page where it is dirty. Where that fails it is still dirty.
     fn settle<H: Host>(&mut self, host: &mut H, name: PageName) -> Result<(), CacheError>
         requires in_step { IsInStep H.meaning self.old host.old }
         ensures resident { names_of self.new ≡ names_of self.old }
-        ensures settled { OnOk result (self.new.held ≡ settled name self.old.held) }
+        ensures settled { OnOk result (self.new.held ≡ with_clean name self.old.held) }
         ensures refusal { OnErr result (self.new.held ≡ self.old.held) }
         ensures unwritten { self.new.unwritten ≡ self.old.unwritten }
         ensures sound { AreResident self.new.pages self.new.held }
@@ -334,7 +334,7 @@ impl Cache {
         ensures ran { RanCached H.meaning CacheError.Fault [] self.old host.old self.new host.new result }
     {
         let _ = self.len();
-        let Some(bytes) = self.frames.waiting(name) else {
+        let Some(bytes) = self.frames.dirty(name) else {
             return Ok(());
         };
         host.write_at(name.file, name.page * PAGE_SIZE as u64, bytes)?;
@@ -354,7 +354,7 @@ impl Cache {
         requires name { IsCacheable name }
         requires page { length bytes.now ≡ PAGE_SIZE }
         requires marked { Contains self.old.unwritten name.file }
-        requires room { SparesWaiting name self.old.pages self.old.held }
+        requires room { SparesDirty name self.old.pages self.old.held }
         requires joins { IsTrue joins → IsTrue H.meaning.tells
             → page_start name.page ≤ length (seen H.meaning self.old host.old name.file) }
         requires absent { joins ≡ false → Contains (names_of self.old) name → ⊥ }
@@ -388,13 +388,13 @@ impl Cache {
     }
 
     /// Puts a copy of the bytes of a page under its name, as the most recently used.
-    fn keep(&mut self, name: PageName, bytes: &[u8], waiting: bool) -> Result<(), NoMemory>
+    fn keep(&mut self, name: PageName, bytes: &[u8], dirty: bool) -> Result<(), NoMemory>
         requires name { IsCacheable name }
         requires page { length bytes.now ≡ PAGE_SIZE }
         ensures resident { OnOk result (names_of self.new
             ≡ used self.old.pages (name ∷ []) (names_of self.old)) }
         ensures held { OnOk result (self.new.held
-            ≡ record { name = name; bytes = bytes.now; waiting = waiting }
+            ≡ record { name = name; bytes = bytes.now; dirty = dirty }
             ∷ take (self.old.pages - 1) (held_without name self.old.held)) }
         ensures refusal { OnErr result (self.new.held ≡ self.old.held) }
         ensures pages { self.new.pages ≡ self.old.pages }
@@ -403,7 +403,7 @@ impl Cache {
     {
         let mut frame = self.frames.take();
         frame.fill(bytes);
-        frame.wait(waiting);
+        frame.mark(dirty);
         self.frames.place(name, frame)?;
         Ok(())
     }

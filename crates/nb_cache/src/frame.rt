@@ -6,11 +6,11 @@ ghost use Rattle.nb_host.specs.declared.page_name.TheConstants.{PAGE_SIZE};
 use nb_host::PAGE_SIZE;
 use std::alloc::{AllocError, Global};
 
-/// The memory of one page, and whether its bytes wait to be written.
+/// The memory of one page, and whether it is dirty: whether its bytes are still to be written.
 #[derive(Drop)]
 pub(crate) struct Frame {
     pub(crate) bytes: Vec<u8>,
-    pub(crate) waiting: bool,
+    pub(crate) dirty: bool,
     pub(crate) ghost whole: { length bytes.items ≡ PAGE_SIZE },
 }
 
@@ -19,7 +19,7 @@ impl Frame {
     pub(crate) fn new(alloc: Global) -> Result<Frame, AllocError> {
         Ok(Frame {
             bytes: vec![in alloc; 0; PAGE_SIZE]?,
-            waiting: false,
+            dirty: false,
         })
     }
 
@@ -31,10 +31,10 @@ impl Frame {
         self.bytes.copy_from_slice(bytes);
     }
 
-    /// Says whether its bytes wait to be written.
-    pub(crate) fn wait(&mut self, waiting: bool)
-        ensures { self.new ≡ record self.old { waiting = waiting } }
+    /// Marks the page as dirty or as clean.
+    pub(crate) fn mark(&mut self, dirty: bool)
+        ensures { self.new ≡ record self.old { dirty = dirty } }
     {
-        self.waiting = waiting;
+        self.dirty = dirty;
     }
 }

@@ -3,10 +3,10 @@
 ghost use Rattle.std.specs.Prelude.{◌≡◌, ◌≢◌, ℕ, List, Bool, ◌+◌, ◌-◌, ◌^◌, ◌<◌, ◌≤◌, ◌↔◌, vec_len, vec_capacity, true, false, [], ◌∷◌, take, IsTrue, option_map, IsSome, IfSome, IfOk, OnOk, OnErr, Contains, length, map, filter, slice_get};
 ghost use Rattle.nb_host.specs.declared.page_name.PageName.{PageName as PageNames};
 ghost use Rattle.nb_cache.specs.InStep.{IsCacheable};
-ghost use Rattle.nb_cache.specs.Names.{used, without, without_file, held_without, settled, IsMoved, IsWithoutFile};
+ghost use Rattle.nb_cache.specs.Names.{used, without, without_file, held_without, with_clean, IsPromoted, IsWithoutFile};
 ghost use Rattle.nb_cache.specs.Sound.{AreResident};
 ghost use Rattle.nb_cache.specs.Stock.{HasFrames};
-ghost use Rattle.nb_cache.specs.View.{Held, Waits, held_names, shown, overlaid};
+ghost use Rattle.nb_cache.specs.View.{Held, IsDirty, held_names, resident_bytes, overlaid};
 
 use crate::frame::Frame;
 use lru::LruCache;
@@ -82,9 +82,9 @@ impl Frames {
     /// The bytes of a resident page.
     pub(crate) fn lent(&self, name: PageName) -> Option<&[u8]>
         ensures resident { IsSome result ↔ Contains (held_names self.now.held) name }
-        ensures held { IfSome result (λ bytes. (waiting : Bool) × Contains self.now.held
-            (record { name = name; bytes = bytes.now; waiting = waiting })) }
-        ensures shown { option_map (λ bytes. bytes.now) result ≡ shown self.now.held name }
+        ensures held { IfSome result (λ bytes. (dirty : Bool) × Contains self.now.held
+            (record { name = name; bytes = bytes.now; dirty = dirty })) }
+        ensures shown { option_map (λ bytes. bytes.now) result ≡ resident_bytes self.now.held name }
         ensures whole { IfSome result (λ bytes. length bytes.now ≡ PAGE_SIZE) }
         ensures sound { AreResident self.now.pages self.now.held }
     {
@@ -95,32 +95,32 @@ impl Frames {
         }
     }
 
-    /// The bytes of a page that waits to be written, or None where it doesn't wait.
-    pub(crate) fn waiting(&self, name: PageName) -> Option<&[u8]>
+    /// The bytes of a dirty page, or None where it is clean.
+    pub(crate) fn dirty(&self, name: PageName) -> Option<&[u8]>
         ensures held { IfSome result (λ bytes. Contains self.now.held
-            (record { name = name; bytes = bytes.now; waiting = true })) }
-        ensures none { result ≡ None → Waits self.now.held name → ⊥ }
+            (record { name = name; bytes = bytes.now; dirty = true })) }
+        ensures none { result ≡ None → IsDirty self.now.held name → ⊥ }
     {
         let _ = self.resident.len();
         match self.resident.peek(&name) {
-            Some(frame) if frame.waiting => Some(&frame.bytes),
+            Some(frame) if frame.dirty => Some(&frame.bytes),
             _ => None,
         }
     }
 
-    /// The names of the pages that wait to be written, in their order.
-    pub(crate) fn names_waiting(&self) -> Result<Vec<PageName>, NoMemory>
-        ensures { IfOk result (λ names. (name : PageNames) → Waits self.now.held name
+    /// The names of the dirty pages, in their order.
+    pub(crate) fn dirty_names(&self) -> Result<Vec<PageName>, NoMemory>
+        ensures { IfOk result (λ names. (name : PageNames) → IsDirty self.now.held name
             → Contains names.items name) }
     {
-        let mut names = waiting_names(self.alloc, &self.resident)?;
+        let mut names = dirty_names_of(self.alloc, &self.resident)?;
         names.sort_unstable();
         Ok(names)
     }
 
-    /// A page no longer waits.
+    /// A page is clean now.
     pub(crate) fn settle(&mut self, name: PageName)
-        ensures held { self.new.held ≡ settled name self.old.held }
+        ensures held { self.new.held ≡ with_clean name self.old.held }
         ensures pages { self.new.pages ≡ self.old.pages }
         ensures frames { (n : ℕ) → HasFrames n self.old → HasFrames n self.new }
     {
@@ -128,7 +128,7 @@ impl Frames {
         let Some(frame) = self.resident.peek_mut(&name) else {
             return;
         };
-        frame.waiting = false;
+        frame.dirty = false;
     }
 
     /// Makes a resident page the most recently used, and tells whether it is resident.
@@ -137,7 +137,7 @@ impl Frames {
         ensures absent { result ≡ false → self.new ≡ self.old }
         ensures resident { IsTrue result → held_names self.new.held
             ≡ used self.old.pages (name ∷ []) (held_names self.old.held) }
-        ensures moved { IsTrue result → IsMoved name self.old.held self.new.held }
+        ensures moved { IsTrue result → IsPromoted name self.old.held self.new.held }
         ensures pages { self.new.pages ≡ self.old.pages }
         ensures frames { (n : ℕ) → HasFrames n self.old → HasFrames n self.new }
         ensures sound { AreResident self.new.pages self.new.held }
@@ -177,7 +177,7 @@ impl Frames {
         ensures resident { OnOk result (held_names self.new.held
             ≡ used self.old.pages (name ∷ []) (held_names self.old.held)) }
         ensures held { OnOk result (self.new.held
-            ≡ record { name = name; bytes = frame.bytes.items; waiting = frame.waiting }
+            ≡ record { name = name; bytes = frame.bytes.items; dirty = frame.dirty }
             ∷ take (self.old.pages - 1) (held_without name self.old.held)) }
         ensures refusal { OnErr result (self.new.held ≡ self.old.held) }
         ensures pages { self.new.pages ≡ self.old.pages }
@@ -269,17 +269,17 @@ impl Frames {
     }
 }
 
-/// The names of the pages that wait, the most recently used first.
-fn waiting_names(
+/// The names of the dirty pages, the most recently used first.
+fn dirty_names_of(
     alloc: Global,
     resident: &LruCache<PageName, Frame>,
 ) -> Result<Vec<PageName>, AllocError>
     ensures { IfOk result (λ names. names.items
-        ≡ map (λ e. e.0) (filter (λ e. e.1.waiting) resident.now.entries)) }
+        ≡ map (λ e. e.0) (filter (λ e. e.1.dirty) resident.now.entries)) }
 {
     resident
         .iter()
-        .filter(|(_, frame)| frame.waiting)
+        .filter(|(_, frame)| frame.dirty)
         .map(|(name, _)| *name)
         .collect(alloc)
 }

@@ -8,7 +8,7 @@ use Rattle.nb_host.specs.Page.{HasPage, page_of, page_start}
 use Rattle.nb_host.specs.declared.page_name.PageName.{PageName}
 use Rattle.nb_host.specs.declared.page_name.TheConstants.{PAGE_SIZE}
 use Rattle.nb_host.proofs.Callers.{ok_is_no_error, stopped_after}
-use Rattle.nb_cache.specs.InStep.{IsInStep, Fits}
+use Rattle.nb_cache.specs.InStep.{IsInStep, IsCoherent}
 use Rattle.nb_cache.specs.View.{CacheValue, view_of, seen, Seen, Same}
 use Rattle.nb_cache.specs.Writes.{Writes, RanCached}
 use Rattle.nb_cache.proofs.Callers.{no_file, writes_begins, writes_again, lent_page}
@@ -17,7 +17,7 @@ use Rattle.nb_record.specs.Pages.{page_next, IsCellPage}
 use Rattle.nb_record.specs.Records.{cells_of, IsCell}
 use Rattle.nb_record.specs.Table.{next_of}
 use Rattle.nb_cell.specs.declared.table.CellTable.{CellTable}
-use Rattle.nb_cell.specs.Chains.{first_page, LeadsPast, ComesTo, StopsAt, EndsAt, HasNewPage}
+use Rattle.nb_cell.specs.Chains.{first_page, PassesOn, ComesTo, StopsAt, EndsAt, HasNewPage}
 use Rattle.nb_cell.specs.Insertions.{HasInserted, HasKept, IsDamaged}
 use Rattle.nb_cell.proofs.EmptyPages.{IsEmptyPage, HasEmptyPages, no_pages, one_page_more}
 use Rattle.nb_cell.proofs.Insertions.{IsWithCell, IsWithNext, inserted_on_last, inserted_behind, kept_all, kept_behind}
@@ -49,15 +49,15 @@ pub still : {H : Type 0} {m : HostModel H} {old_cache new_cache : CacheValue} {o
 still file writes tells = writes.view tells file (no_file file)
 
 pub past_before : {H : Type 0} {m : HostModel H} {t : CellTable} {key page : ℕ} {old_cache new_cache : CacheValue} {old new : H}
-    → Walks m t key old_cache old page new_cache new → IsTrue m.tells → LeadsPast (seen m new_cache new t.file) t.pages key page
-    → LeadsPast (seen m old_cache old t.file) t.pages key page
-past_before {t = t} {key = key} {page = page} walks tells past = subst (λ l. LeadsPast l t.pages key page) (still t.file walks.writes tells) past
+    → Walks m t key old_cache old page new_cache new → IsTrue m.tells → PassesOn (seen m new_cache new t.file) t.pages key page
+    → PassesOn (seen m old_cache old t.file) t.pages key page
+past_before {t = t} {key = key} {page = page} walks tells past = subst (λ l. PassesOn l t.pages key page) (still t.file walks.writes tells) past
 
 -- on to the next page
 pub walks_on : {H T E : Type 0} {m : HostModel H} {t : CellTable} {key page : ℕ} {old_cache middle_cache new_cache : CacheValue}
     {old middle new : H} {fault : E} {result : Result T E} (next : ℕ) → Walks m t key old_cache old page middle_cache middle
     → (page < next) × (next < t.pages)
-    → (IsTrue m.tells → LeadsPast (seen m middle_cache middle t.file) t.pages key page)
+    → (IsTrue m.tells → PassesOn (seen m middle_cache middle t.file) t.pages key page)
     → (IsTrue m.tells → next_of (seen m middle_cache middle t.file) page ≡ next)
     → RanCached m fault [] middle_cache middle new_cache new result → IsOk result
     → Walks m t key old_cache old next new_cache new
@@ -83,7 +83,7 @@ walks_ran walks ran there back = record {
 
 -- a page without a next page is the end
 pub walks_end : {H : Type 0} {m : HostModel H} {t : CellTable} {key page : ℕ} {old_cache middle_cache : CacheValue} {old middle : H}
-    → Walks m t key old_cache old page middle_cache middle → (IsTrue m.tells → LeadsPast (seen m middle_cache middle t.file) t.pages key page)
+    → Walks m t key old_cache old page middle_cache middle → (IsTrue m.tells → PassesOn (seen m middle_cache middle t.file) t.pages key page)
     → (IsTrue m.tells → next_of (seen m middle_cache middle t.file) page ≡ 0) → IsTrue m.tells
     → EndsAt (seen m old_cache old t.file) t.pages key (first_page t.bits key) page
 walks_end {t = t} {page = page} walks past none tells = record {
@@ -97,14 +97,14 @@ walks_end {t = t} {page = page} walks past none tells = record {
 -- what the cache lends after calls that wrote nothing is the page as it was
 pub lent_here : {H : Type 0} {m : HostModel H} {old_cache new_cache : CacheValue} {old new : H} {bytes : List ℕ} (file page : ℕ)
     (name : PageName) → name ≡ record { file = file; page = page } → Writes m [] old_cache old new_cache new
-    → ((image : Image) → Fits new_cache image → bytes ≡ page_of (view_of new_cache image name.file) name.page)
+    → ((image : Image) → IsCoherent new_cache image → bytes ≡ page_of (view_of new_cache image name.file) name.page)
     → IsTrue m.tells → bytes ≡ page_of (seen m old_cache old file) page
 lent_here {m = m} {old_cache = old_cache} {old = old} file page name named writes lent tells =
     lent_page name (no_file name.file) writes lent tells ∙ ap (λ (n : PageName). page_of (seen m old_cache old n.file) n.page) named
 
 -- a whole page that is of the form, lacks the key and has a next page of the file leads past
 pub passed_past : (file : List ℕ) {bytes : List ℕ} {pages key page behind : ℕ} → page < pages → bytes ≡ page_of file page → HasPage file page
-    → IsPassed key page bytes behind → behind < pages → LeadsPast file pages key page
+    → IsPassed key page bytes behind → behind < pages → PassesOn file pages key page
 passed_past file {pages = pages} {key = key} {page = page} within is whole passed later = record {
   within = within;
   whole = whole;
@@ -138,13 +138,13 @@ outside_damaged m t key cache host page name named starts outside =
 
 pub walks_damaged : {H : Type 0} {m : HostModel H} {t : CellTable} {key page : ℕ} {old_cache middle_cache : CacheValue} {old middle : H}
     (name : PageName) → Walks m t key old_cache old page middle_cache middle → name ≡ record { file = t.file; page = page }
-    → (IsTrue m.tells → LeadsPast (seen m middle_cache middle t.file) t.pages key page → ⊥) → IsDamaged m t key old_cache old name
+    → (IsTrue m.tells → PassesOn (seen m middle_cache middle t.file) t.pages key page → ⊥) → IsDamaged m t key old_cache old name
 walks_damaged {m = m} {t = t} {key = key} {page = page} {old_cache = old_cache} {old = old} name walks named stops =
     stops_damaged name (ap (λ (n : PageName). n.file) named)
     (λ tells. subst (StopsAt (seen m old_cache old t.file) t.pages key (first_page t.bits key)) (sym (ap (λ (n : PageName). n.page) named))
     (record {
       comes = walks.comes tells;
-      stops = λ leads. stops tells (subst (λ l. LeadsPast l t.pages key page) (sym (still t.file walks.writes tells)) leads);
+      stops = λ leads. stops tells (subst (λ l. PassesOn l t.pages key page) (sym (still t.file walks.writes tells)) leads);
     }))
 
 -- a page at which the search ended is of the form
@@ -152,7 +152,7 @@ pub ends_damaged : {H : Type 0} {m : HostModel H} {t : CellTable} {key page : �
     (name : PageName) → Writes m [] old_cache old found_cache found
     → (IsTrue m.tells → EndsAt (seen m old_cache old t.file) t.pages key (first_page t.bits key) page)
     → name ≡ record { file = t.file; page = page }
-    → ((image : Image) → Fits found_cache image → IsCellPage page (page_of (view_of found_cache image t.file) page) → ⊥)
+    → ((image : Image) → IsCoherent found_cache image → IsCellPage page (page_of (view_of found_cache image t.file) page) → ⊥)
     → IsDamaged m t key old_cache old name
 ends_damaged {m = m} {t = t} {page = page} {found = found} name writes ends named damaged =
     stops_damaged name (ap (λ (n : PageName). n.file) named)
@@ -161,7 +161,7 @@ ends_damaged {m = m} {t = t} {page = page} {found = found} name writes ends name
 
 -- ---- what an insertion puts
 
-module _ {H : Type 0} {m : HostModel H} {old_cache found_cache : CacheValue} {old found : H} (t : CellTable) (q : ℕ) (cell : Cell) (fits : IsCell cell) (page bytes : List ℕ) (writes : Writes m [] old_cache old found_cache found) (ends : IsTrue m.tells → EndsAt (seen m old_cache old t.file) t.pages cell.key (first_page t.bits cell.key) q) (copied : (image : Image) → Fits found_cache image → page ≡ page_of (view_of found_cache image t.file) q) where
+module _ {H : Type 0} {m : HostModel H} {old_cache found_cache : CacheValue} {old found : H} (t : CellTable) (q : ℕ) (cell : Cell) (fits : IsCell cell) (page bytes : List ℕ) (writes : Writes m [] old_cache old found_cache found) (ends : IsTrue m.tells → EndsAt (seen m old_cache old t.file) t.pages cell.key (first_page t.bits cell.key) q) (copied : (image : Image) → IsCoherent found_cache image → page ≡ page_of (view_of found_cache image t.file) q) where
   copy : IsTrue m.tells → page ≡ page_of (seen m old_cache old t.file) q
   copy tells = lent_page (record { file = t.file; page = q }) (no_file t.file) writes copied tells
 

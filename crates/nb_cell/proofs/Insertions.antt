@@ -11,7 +11,7 @@ use Rattle.nb_host.specs.declared.page_name.TheConstants.{PAGE_SIZE}
 use Rattle.nb_host.proofs.Callers.{overwritten-at_end}
 use Rattle.nb_record.specs.declared.cell.Cell.{Cell}
 use Rattle.nb_record.specs.declared.sizes.TheConstants.{CELL_SIZE, CELLS_PER_PAGE}
-use Rattle.nb_record.specs.Pages.{page_number, page_count, page_next, IsCellPage}
+use Rattle.nb_record.specs.Pages.{page_number, record_count, page_next, IsCellPage}
 use Rattle.nb_record.specs.Records.{cells_of, IsCell}
 use Rattle.nb_record.specs.Table.{IsCellTable}
 use Rattle.nb_record.specs.Writing.{IsZeroPadded, IsZeroPaddedFile}
@@ -41,14 +41,14 @@ pub record IsWritten (page bytes : List ℕ) : Type 0 where
 -- the page with a cell more
 pub record IsWithCell (cell : Cell) (page bytes : List ℕ) : Type 0 where
   pub written : IsWritten page bytes
-  pub room : page_count page ≢ CELLS_PER_PAGE
+  pub room : record_count page ≢ CELLS_PER_PAGE
   pub next : page_next bytes ≡ page_next page
   pub cells : cells_of bytes ≡ cells_of page ++ cell ∷ []
 
 -- the full page with this next page
 pub record IsWithNext (other : ℕ) (page bytes : List ℕ) : Type 0 where
   pub written : IsWritten page bytes
-  pub all : page_count page ≡ CELLS_PER_PAGE
+  pub all : record_count page ≡ CELLS_PER_PAGE
   pub next : page_next bytes ≡ other
   pub cells : cells_of bytes ≡ cells_of page
 
@@ -80,8 +80,8 @@ module _ (t : CellTable) (old : List ℕ) (q : ℕ) (cell : Cell) (fits : IsCell
         → IsAppended old (overwritten (page_start q) bytes old) t.pages t.pages (first_page t.bits cell.key) q cell
     appended_on cells is =
         let has = added_on cells is in
-        let count = page_count (page_of old q) in
-        let not_all : count ≢ CELLS_PER_PAGE = λ all. with.room (ap page_count copied ∙ all) in
+        let count = record_count (page_of old q) in
+        let not_all : count ≢ CELLS_PER_PAGE = λ all. with.room (ap record_count copied ∙ all) in
         record {
           chain_is = cell_appended old t.bits t.pages cells is (overwritten (page_start q) bytes old) q cell fits (ends_last is ends) has;
           grows = sym (cond-false (eqb count CELLS_PER_PAGE) (t.pages + 1) t.pages (ne_eqb count CELLS_PER_PAGE not_all));
@@ -156,8 +156,8 @@ module _ (t : CellTable) (old : List ℕ) (q : ℕ) (cell : Cell) (fits : IsCell
         (first_page t.bits cell.key) q cell
     appended_behind cells is =
         let has = added_behind cells is in
-        let count = page_count (page_of old q) in
-        let all : count ≡ CELLS_PER_PAGE = sym (ap page_count copied) ∙ with.all in
+        let count = record_count (page_of old q) in
+        let all : count ≡ CELLS_PER_PAGE = sym (ap record_count copied) ∙ with.all in
         record {
           chain_is = page_appended old t.bits t.pages cells is (overwritten (page_start q) bytes (overwritten (page_start t.pages) added old)) q cell
               fits (ends_last is ends) has;

@@ -7,8 +7,8 @@ use Rattle.nb_record.specs.declared.answer.Look.TheVariants.{Found, Next, Wants,
 use Rattle.nb_record.specs.declared.header.PageError.{PageError}
 use Rattle.nb_record.specs.declared.header.PageError.TheVariants as error
 use Rattle.nb_record.specs.declared.sizes.TheConstants.{CELLS_PER_PAGE}
-use Rattle.nb_record.specs.Fields.{word}
-use Rattle.nb_record.specs.Pages.{page_number, page_count, page_next, read_cell_page, IsCellPage}
+use Rattle.nb_record.specs.Fields.{u64_at}
+use Rattle.nb_record.specs.Pages.{page_number, record_count, page_next, read_cell_page, IsCellPage}
 use Rattle.nb_record.specs.Records.{cells_of}
 use Rattle.nb_record.specs.Looking.{index_of_key, IsLookOn, IsLookAt, IsLook}
 use Rattle.nb_record.proofs.Callers.{cells_checked, key_lacking}
@@ -96,8 +96,8 @@ said_checked false count next zeros key page bytes look checked is = subst (IsSa
 said : (key page : ℕ) (bytes : List ℕ) (shown : Option (List ℕ)) (look : Look) → shown ≡ Some bytes → IsLook key page shown look
     → IsSaid key page bytes look
 said key page bytes shown look there is =
-    said_checked (eqb (page_number bytes) page) (leb (page_count bytes) CELLS_PER_PAGE) (eqb (page_next bytes) 0 || ltb page (page_next bytes))
-    (eqb (word 24 bytes) 0) key page bytes look refl (subst (λ s. IsLook key page s look) there is)
+    said_checked (eqb (page_number bytes) page) (leb (record_count bytes) CELLS_PER_PAGE) (eqb (page_next bytes) 0 || ltb page (page_next bytes))
+    (eqb (u64_at 24 bytes) 0) key page bytes look refl (subst (λ s. IsLook key page s look) there is)
 
 pub gone_passed : (key page : ℕ) (bytes : List ℕ) (shown : Option (List ℕ)) → shown ≡ Some bytes → IsLook key page shown Gone
     → IsPassed key page bytes 0

@@ -11,7 +11,7 @@ use Rattle.nb_record.specs.declared.cell.Cell.{Cell}
 use Rattle.nb_record.specs.Records.{cells_of}
 use Rattle.nb_record.specs.Table.{next_of, chain, IsCellTable}
 use Rattle.nb_record.proofs.Callers.{leads_on, chain_ends, chain_follows, chain_holds}
-use Rattle.nb_cell.specs.Chains.{first_page, LeadsPast, ComesTo, StopsAt, EndsAt, IsLastOfChain}
+use Rattle.nb_cell.specs.Chains.{first_page, PassesOn, ComesTo, StopsAt, EndsAt, IsLastOfChain}
 use Rattle.nb_cell.proofs.Reach.{Reaches, IsReached, Split, reached_within, chain_splits}
 
 -- ---- in any file
@@ -82,9 +82,9 @@ module _ (file : List ℕ) where
       reaches_first n h (next_of file h) p refl more.0 (reaches n before (next_of file h) p (omega arith) more.1)
 
 pub comes_first : (file : List ℕ) (pages key h : ℕ) → ComesTo file pages key h h
-comes_first file pages key h = record { before = []; way = one_page file h; past = All-nil (LeadsPast file pages key) }
+comes_first file pages key h = record { before = []; way = one_page file h; past = All-nil (PassesOn file pages key) }
 
-pub comes_on : {file : List ℕ} {pages key h p q : ℕ} → ComesTo file pages key h p → LeadsPast file pages key p → next_of file p ≡ q
+pub comes_on : {file : List ℕ} {pages key h p q : ℕ} → ComesTo file pages key h p → PassesOn file pages key p → next_of file p ≡ q
     → q ≢ 0 → ComesTo file pages key h q
 comes_on {file = file} {pages = pages} {key = key} {h = h} {p = p} {q = q} comes leads next some =
     let before = comes.before in
@@ -95,7 +95,7 @@ comes_on {file = file} {pages = pages} {key = key} {h = h} {p = p} {q = q} comes
       way = ap (λ n. chain file n h) long
           ∙ goes_on file (length before) before h p q refl (ap (λ n. chain file n h) at ∙ comes.way) next some
           ∙ sym (append_assoc before (p ∷ []) (q ∷ []));
-      past = All-push (LeadsPast file pages key) before p comes.past leads;
+      past = All-push (PassesOn file pages key) before p comes.past leads;
     }
 
 reached : {file : List ℕ} {pages key h p : ℕ} → ComesTo file pages key h p → IsReached file h p
@@ -152,7 +152,7 @@ module _ (file : List ℕ) (bits pages : ℕ) (cells : List Cell) (is : IsCellTa
       (subst (All (λ r. All (Contains cells) (cells_of (page_of file r)))) split.old
       (all_pieces (λ r. cells_of (page_of file r)) (Contains cells) (chain file pages h) (chain_holds file bits pages cells is h begins))))
 
-  leads_past : (key : ℕ) → All (λ c. c.key ≢ key) cells → LeadsPast file pages key page
+  leads_past : (key : ℕ) → All (λ c. c.key ≢ key) cells → PassesOn file pages key page
   leads_past key lacks = record {
     within = is_within;
     whole = let whole = is.whole in let within = is_within in omega arith;

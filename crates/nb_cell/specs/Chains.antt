@@ -5,7 +5,7 @@ use Rattle.nb_host.specs.Page.{HasPage, page_of, page_start}
 use Rattle.nb_host.specs.declared.page_name.TheConstants.{PAGE_SIZE}
 use Rattle.nb_record.specs.declared.cell.Cell.{Cell}
 use Rattle.nb_record.specs.declared.sizes.TheConstants.{CELL_SIZE, CELLS_PER_PAGE}
-use Rattle.nb_record.specs.Pages.{page_count, page_next, IsCellPage}
+use Rattle.nb_record.specs.Pages.{record_count, page_next, IsCellPage}
 use Rattle.nb_record.specs.Records.{cells_of}
 use Rattle.nb_record.specs.Table.{next_of, chain, cells_on_chain}
 use Rattle.nb_record.specs.Writing.{IsZeroPadded}
@@ -16,7 +16,7 @@ first_page bits key = key % 2 ^ bits
 
 -- A search for a key goes on past page p of a file with so many pages: the page is one of these, whole and of the form,
 -- none of its cells has the key, and its next page, if it has one, is one of these too.
-pub record LeadsPast (file : List ℕ) (pages key p : ℕ) : Type 0 where
+pub record PassesOn (file : List ℕ) (pages key p : ℕ) : Type 0 where
   pub within : p < pages
   pub whole : HasPage file p
   pub form : IsCellPage p (page_of file p)
@@ -27,17 +27,17 @@ pub record LeadsPast (file : List ℕ) (pages key p : ℕ) : Type 0 where
 pub record ComesTo (file : List ℕ) (pages key h p : ℕ) : Type 0 where
   pub before : List ℕ
   pub way : chain file (length before + 1) h ≡ before ++ p ∷ []
-  pub past : All (LeadsPast file pages key) before
+  pub past : All (PassesOn file pages key) before
 
 -- It can't go on at page p: that page doesn't lead past.
 pub record StopsAt (file : List ℕ) (pages key h p : ℕ) : Type 0 where
   pub comes : ComesTo file pages key h p
-  pub stops : LeadsPast file pages key p → ⊥
+  pub stops : PassesOn file pages key p → ⊥
 
 -- It ends at page p, which leads past and has no next page.
 pub record EndsAt (file : List ℕ) (pages key h p : ℕ) : Type 0 where
   pub comes : ComesTo file pages key h p
-  pub past : LeadsPast file pages key p
+  pub past : PassesOn file pages key p
   pub last : next_of file p ≡ 0
 
 -- Page p is the last of the chain that begins at page h, in a file with so many pages.
@@ -66,7 +66,7 @@ pub record HasNewPage (pages : ℕ) (cell : Cell) (before now : List ℕ) : Type
 -- was.
 pub record IsAppended (old new : List ℕ) (pages new_pages h p : ℕ) (cell : Cell) : Type 0 where
   pub chain_is : cells_on_chain new new_pages h ≡ cells_on_chain old pages h ++ cell ∷ []
-  pub grows : new_pages ≡ (if page_count (page_of old p) == CELLS_PER_PAGE then pages + 1 else pages)
+  pub grows : new_pages ≡ (if record_count (page_of old p) == CELLS_PER_PAGE then pages + 1 else pages)
   pub last : cells_of (page_of new p)
-      ≡ (if page_count (page_of old p) == CELLS_PER_PAGE then cells_of (page_of old p) else cells_of (page_of old p) ++ cell ∷ [])
+      ≡ (if record_count (page_of old p) == CELLS_PER_PAGE then cells_of (page_of old p) else cells_of (page_of old p) ++ cell ∷ [])
   pub others : (q : ℕ) → q < pages → q ≢ p → page_of new q ≡ page_of old q

@@ -7,13 +7,13 @@ use nb_record::{BodyPage, CellPage, Lender, PageError};
 
 /// Shows one page of a file of cells, in the bytes that the cache lends, and no page of bodies.
 #[derive(Drop)]
-pub(crate) struct Shown<'a> {
+pub(crate) struct ResidentPage<'a> {
     pub(crate) page: u64,
     pub(crate) bytes: &'a [u8],
     ghost whole: { length bytes.now ≡ PAGE_SIZE },
 }
 
-impl<'a> Lender for Shown<'a> {
+impl<'a> Lender for ResidentPage<'a> {
     ghost cells = { λ shown page. if shown.page == page then Some shown.bytes.now else None };
 
     ghost bodies = { λ shown page. None };

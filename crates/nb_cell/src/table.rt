@@ -5,18 +5,18 @@ ghost use Rattle.std.specs.Prelude.{IsTrue, unwrap_or, IfSome, IsOk, IfOk, IfErr
 ghost use Rattle.nb_host.specs.Image.{Image, IsOverwritten};
 ghost use Rattle.nb_host.specs.Page.{page_of, page_start};
 ghost use Rattle.nb_host.specs.declared.page_name.PageName.{PageName as PageNames};
-ghost use Rattle.nb_cache.specs.InStep.{IsCachedFile, IsCacheable, IsInStep, Fits};
+ghost use Rattle.nb_cache.specs.InStep.{IsCachedFile, IsCacheable, IsInStep, IsCoherent};
 ghost use Rattle.nb_cache.specs.View.{names_of, view_of, seen, Seen, Same};
 ghost use Rattle.nb_cache.specs.Writes.{RanCached};
-ghost use Rattle.nb_record.specs.Pages.{page_count, IsCellPage};
+ghost use Rattle.nb_record.specs.Pages.{record_count, IsCellPage};
 ghost use Rattle.nb_record.specs.Records.{IsCell};
 ghost use Rattle.nb_record.specs.Table.{next_of, IsCellTable};
 ghost use Rattle.nb_record.specs.Writing.{IsZeroPaddedFile};
-ghost use Rattle.nb_cell.specs.Chains.{first_page, LeadsPast, EndsAt, HasNewPage};
+ghost use Rattle.nb_cell.specs.Chains.{first_page, PassesOn, EndsAt, HasNewPage};
 ghost use Rattle.nb_cell.specs.Insertions.{Grows, HasInserted, HasKept, IsDamaged};
 
 use crate::cell_error::CellError;
-use crate::shown::Shown;
+use crate::shown::ResidentPage;
 use nb_cache::{Cache, CacheError};
 use nb_host::{Host, HostError, PAGE_SIZE, PageName};
 use nb_key::Key;
@@ -159,21 +159,21 @@ impl CellTable {
             (Contains (names_of cache.new) (record { file = self.now.file; page = page })) }
         ensures later { IfOk result (λ next. IfSome next (λ next. (page < next) × (next < self.now.pages))) }
         ensures past { OnOk result (IsTrue H.meaning.tells
-            → LeadsPast (seen H.meaning cache.old host.old self.now.file) self.now.pages key page) }
+            → PassesOn (seen H.meaning cache.old host.old self.now.file) self.now.pages key page) }
         ensures next { IfOk result (λ next. IsTrue H.meaning.tells
             → next_of (seen H.meaning cache.old host.old self.now.file) page ≡ unwrap_or next 0) }
         ensures named { (name : PageNames) → result ≡ Err (CellError.Damaged name)
             → name ≡ record { file = self.now.file; page = page } }
         ensures damaged { (name : PageNames) → result ≡ Err (CellError.Damaged name)
             → IsTrue H.meaning.tells
-            → LeadsPast (seen H.meaning cache.old host.old self.now.file) self.now.pages key page → ⊥ }
+            → PassesOn (seen H.meaning cache.old host.old self.now.file) self.now.pages key page → ⊥ }
         ensures ran { RanCached H.meaning CellError.Fault [] cache.old host.old cache.new host.new result }
     {
         let name = self.name(page);
         prove!(cache.pages() > 0);
         cache.fetch(host, &[name])?;
         let bytes = cache.lent(name).unwrap();
-        let shown = Shown { page, bytes };
+        let shown = ResidentPage { page, bytes };
         match look(&shown, key, page) {
             Look::Gone => Ok(None),
             Look::Next(next) => {
@@ -192,12 +192,12 @@ impl CellTable {
         requires size { length into.old ≡ PAGE_SIZE }
         ensures size { length into.new ≡ PAGE_SIZE }
         ensures form { OnOk result (IsCellPage page into.new) }
-        ensures count { IfOk result (λ count. count ≡ page_count into.new) }
-        ensures view { OnOk result ((image : Image) → Fits cache.now image
+        ensures count { IfOk result (λ count. count ≡ record_count into.new) }
+        ensures view { OnOk result ((image : Image) → IsCoherent cache.now image
             → into.new ≡ page_of (view_of cache.now image self.now.file) page) }
         ensures named { IfErr result (λ error. error
             ≡ CellError.Damaged (record { file = self.now.file; page = page })) }
-        ensures damaged { OnErr result ((image : Image) → Fits cache.now image
+        ensures damaged { OnErr result ((image : Image) → IsCoherent cache.now image
             → IsCellPage page (page_of (view_of cache.now image self.now.file) page) → ⊥) }
     {
         let name = self.name(page);

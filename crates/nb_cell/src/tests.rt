@@ -5,7 +5,7 @@ ghost use Rattle.nb_cache.specs.InStep.{IsCachedFile, IsInStep};
 ghost use Rattle.nb_record.specs.Records.{IsCell};
 
 use crate::cell_error::CellError;
-use crate::shown::Shown;
+use crate::shown::ResidentPage;
 use crate::table::{CellTable, MOST_BITS};
 use nb_cache::Cache;
 use nb_host::{Host, MemoryHost, PAGE_SIZE, PageName};
@@ -79,7 +79,7 @@ fn insert_keys<H: Host>(
 fn look_at(cache: &Cache, shown: u64, number: u64, page: u64) -> Option<Answer> {
     let bytes = cache.lent(name(shown))?;
     let key = Key::from_number(number)?;
-    let shown = Shown { page: shown, bytes };
+    let shown = ResidentPage { page: shown, bytes };
     match look(&shown, key, page) {
         Look::Found(cell) => Some(Answer::Found(cell.key().number())),
         Look::Next(next) => Some(Answer::Next(next)),

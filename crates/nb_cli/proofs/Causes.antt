@@ -9,21 +9,21 @@ use Rattle.nb_journal.specs.Offsets.{journal_file}
 use Rattle.nb_journal.proofs.Callers.{fresh_alone, not_both, one_damage, one_journal}
 use Rattle.nb_engine.specs.declared.refusal.Refusal.{Refusal}
 use Rattle.nb_engine.specs.declared.refusal.Refusal.TheVariants as refusal
-use Rattle.nb_engine.specs.Sessions.{IsNoLeg, IsGoRefused, CanGo, IsOfGo, IsOfResume}
+use Rattle.nb_engine.specs.Sessions.{IsNoLeg, IsGoRefused, IsGoReady, IsOfGo, IsOfResume}
 use Rattle.nb_engine.specs.Refusal.{NeedsNoCause, damaged_journal}
-use Rattle.nb_engine.specs.Shown.{IsNotShown}
+use Rattle.nb_engine.specs.Shown.{IsShowRefused}
 use Rattle.nb_cli.specs.declared.stop.Stop.{Stop}
 use Rattle.nb_cli.specs.declared.stop.Stop.TheVariants as stop
 use Rattle.nb_cli.specs.declared.words.Job.{Job}
 use Rattle.nb_cli.specs.declared.words.Job.TheVariants as job
 use Rattle.nb_cli.specs.Words.{IsJob}
 use Rattle.nb_engine.specs.Start.{Start, HasStart, IsNoStart, IsStartReady, IsStartRefused, IsOfStart}
-use Rattle.nb_cli.specs.Stop.{IsGiven}
-use Rattle.nb_cli.specs.Once.{IsOnceReady, IsOfOnce, IsOnceRefused}
-use Rattle.nb_cli.specs.Make.{CanMake, IsThere, IsOfMake}
-use Rattle.nb_cli.specs.Demo.{CanDemo, IsDemoRefused, IsOfDemo}
+use Rattle.nb_cli.specs.Stop.{HasRefusalLine}
+use Rattle.nb_cli.specs.Once.{IsOnceReady, IsOnceRefused}
+use Rattle.nb_cli.specs.Make.{IsMakeReady, IsMakeRefused, IsOfMake}
+use Rattle.nb_cli.specs.Demo.{IsDemoReady, IsDemoRefused, IsOfDemo}
 use Rattle.nb_cli.proofs.Commands.{one_job}
-use Rattle.nb_cli.specs.Answer.{IsJobReady, IsJobRefused, IsJobSpoilt, HasCause}
+use Rattle.nb_cli.specs.Answer.{IsJobReady, IsJobRefused, IsJobDamaged, HasCause}
 
 -- ---- a start
 
@@ -63,26 +63,26 @@ not_start ready (inr (inr (_, inr (inr none)))) =
     let same = one_start ready.starts none.1 in let p = ready.light in let q = none.2 in cc
 
 -- Where there is a journal none is missing.
-pub not_shown : {file : List ℕ} {why : Refusal} (log : Log) → IsJournal log file → IsNotShown file why → ⊥
+pub not_shown : {file : List ℕ} {why : Refusal} (log : Log) → IsJournal log file → IsShowRefused file why → ⊥
 not_shown log journal (inl none) = fresh_alone log 0 _ none.1 (inl journal)
 not_shown log journal (inr none) = not_both log none.0 _ journal none.2
 
 -- Where `go` can lead there nothing else holds.
-pub not_gone : (files : ℕ → List ℕ) (target : ℕ) {why : Refusal} → CanGo target files → IsGoRefused target files why → ⊥
+pub not_gone : (files : ℕ → List ℕ) (target : ℕ) {why : Refusal} → IsGoReady target files → IsGoRefused target files why → ⊥
 not_gone files target can (inl none) = not_shown can.0 can.1 none
 not_gone files target {why = why} can (inr none) =
     let same = one_journal none.0 can.0 (files journal_file) none.1 can.1 in
     can.2 why (subst (λ (l : Log). IsNoLeg target (progress_of l) why) same none.2)
 
 -- Where `make` can be done neither file holds anything.
-not_there : {files : ℕ → List ℕ} {why : Refusal} → CanMake files → IsThere files why → ⊥
+not_there : {files : ℕ → List ℕ} {why : Refusal} → IsMakeReady files → IsMakeRefused files why → ⊥
 not_there can there = elim there.some [
   | inl params ↦ params can.params
   | inr init ↦ init can.init
 ]
 
 -- Where `demo` can be done nothing else holds.
-not_demo : (files : ℕ → List ℕ) (target : ℕ) {why : Refusal} → CanDemo files target → IsDemoRefused files target why → ⊥
+not_demo : (files : ℕ → List ℕ) (target : ℕ) {why : Refusal} → IsDemoReady files target → IsDemoRefused files target why → ⊥
 not_demo files target can (inl run) = fresh_alone run.1.0 0 _ can.fresh (inl run.1.1)
 not_demo files target can (inr (inl damaged)) = fresh_no_damage damaged.0 _ can.fresh damaged.2
 not_demo files target can (inr (inr (inl there))) = not_there can.can there.1
@@ -119,7 +119,7 @@ one_refusal (inr (inr first)) (inr (inl second)) =
 one_refusal (inr (inr first)) (inr (inr second)) =
     let same = one_start first.1.starts second.1.starts in let p = first.1.refused in let q = second.1.refused in cc
 
-one_shown : {file : List ℕ} {a b : Refusal} → IsNotShown file a → IsNotShown file b → a ≡ b
+one_shown : {file : List ℕ} {a b : Refusal} → IsShowRefused file a → IsShowRefused file b → a ≡ b
 one_shown (inl first) (inl second) = first.0 ∙ sym second.0
 one_shown (inl first) (inr second) = absurd (fresh_no_damage second.0 _ first.1 second.2)
 one_shown (inr first) (inl second) = absurd (fresh_no_damage first.0 _ second.1 first.2)
@@ -179,7 +179,7 @@ one_demo_refusal files target (inr (inl first)) (inr (inr (inl second))) = absur
 one_demo_refusal files target (inr (inl first)) (inr (inr (inr second))) = absurd (fresh_no_damage first.0 _ second.0 first.2)
 one_demo_refusal files target (inr (inr (inl first))) (inl second) = absurd (fresh_alone second.1.0 0 _ first.0 (inl second.1.1))
 one_demo_refusal files target (inr (inr (inl first))) (inr (inl second)) = absurd (fresh_no_damage second.0 _ first.0 second.2)
-one_demo_refusal files target (inr (inr (inl first))) (inr (inr (inl second))) = first.1.shown ∙ sym second.1.shown
+one_demo_refusal files target (inr (inr (inl first))) (inr (inr (inl second))) = first.1.named ∙ sym second.1.named
 one_demo_refusal files target (inr (inr (inl first))) (inr (inr (inr second))) = absurd (not_there second.1 first.1)
 one_demo_refusal files target (inr (inr (inr first))) (inl second) = absurd (fresh_alone second.1.0 0 _ first.0 (inl second.1.1))
 one_demo_refusal files target (inr (inr (inr first))) (inr (inl second)) = absurd (fresh_no_damage second.0 _ first.0 second.2)
@@ -192,7 +192,7 @@ one_job_refusal files (job.Go target pace) first second = one_go_refusal files t
 one_job_refusal files (job.Resume pace) first second = one_shown first second
 one_job_refusal files (job.Once target) first second = one_refusal first second
 one_job_refusal files job.Show first second = one_shown first second
-one_job_refusal files (job.Make seed count) first second = first.shown ∙ sym second.shown
+one_job_refusal files (job.Make seed count) first second = first.named ∙ sym second.named
 one_job_refusal files (job.Demo seed count target pace) first second = one_demo_refusal files target first second
 
 pub one_cause : {words : List (List ℕ)} {files : ℕ → List ℕ} {a b : Stop} → HasCause words files a → HasCause words files b → a ≡ b
@@ -206,7 +206,7 @@ one_cause {words = words} {files = files} (inr first) (inr second) =
 
 -- Why a command isn't done: it needs no cause, or it is refused, or spoilt.
 abbrev pub IsCause : (ℕ → List ℕ) → Job → Refusal → Type 0
-IsCause files job why = NeedsNoCause why ⊎ IsJobRefused files job why ⊎ IsJobSpoilt files job why
+IsCause files job why = NeedsNoCause why ⊎ IsJobRefused files job why ⊎ IsJobDamaged files job why
 
 -- the cause that a command met in an image that is as before
 pub cause_still : {old now : Image} {why : Refusal} (job : Job) → now ≡ old → IsCause now.file job why → IsCause old.file job why
@@ -220,7 +220,7 @@ never_spoilt files job (inr refused) = inr (inl refused)
 
 -- ---- which refusals the commands give
 
-pub given_by_start : (why : Refusal) → IsOfStart why → IsGiven why
+pub given_by_start : (why : Refusal) → IsOfStart why → HasRefusalLine why
 given_by_start (refusal.Params error) of_start = of_start
 given_by_start (refusal.Snapshot error) of_start = of_start
 given_by_start (refusal.TooHeavy grav mass) of_start = tt
@@ -234,7 +234,7 @@ given_by_start refusal.Device of_start = tt
 given_by_start (refusal.Damaged place) of_start = tt
 given_by_start refusal.NoMemory of_start = tt
 
-pub given_by_go : (why : Refusal) → IsOfGo why → IsGiven why
+pub given_by_go : (why : Refusal) → IsOfGo why → HasRefusalLine why
 given_by_go (refusal.Params error) of_go = absurd of_go
 given_by_go (refusal.Snapshot error) of_go = absurd of_go
 given_by_go (refusal.TooHeavy grav mass) of_go = absurd of_go
@@ -248,7 +248,7 @@ given_by_go refusal.Device of_go = tt
 given_by_go (refusal.Damaged place) of_go = tt
 given_by_go refusal.NoMemory of_go = tt
 
-pub given_by_resume : (why : Refusal) → IsOfResume why → IsGiven why
+pub given_by_resume : (why : Refusal) → IsOfResume why → HasRefusalLine why
 given_by_resume (refusal.Params error) of_resume = absurd of_resume
 given_by_resume (refusal.Snapshot error) of_resume = absurd of_resume
 given_by_resume (refusal.TooHeavy grav mass) of_resume = absurd of_resume
@@ -262,23 +262,13 @@ given_by_resume refusal.Device of_resume = tt
 given_by_resume (refusal.Damaged place) of_resume = tt
 given_by_resume refusal.NoMemory of_resume = tt
 
-pub given_by_once : (why : Refusal) → IsOfOnce why → IsGiven why
-given_by_once (refusal.Params error) of_once = of_once
-given_by_once (refusal.Snapshot error) of_once = of_once
-given_by_once (refusal.TooMany count) of_once = tt
-given_by_once (refusal.TooHeavy grav mass) of_once = tt
-given_by_once (refusal.TickLimit ticks) of_once = tt
-given_by_once refusal.Device of_once = tt
-given_by_once refusal.NoMemory of_once = tt
-given_by_once _ of_once = absurd of_once
-
-pub given_by_make : (why : Refusal) → IsOfMake why → IsGiven why
+pub given_by_make : (why : Refusal) → IsOfMake why → HasRefusalLine why
 given_by_make refusal.InitThere of_make = tt
 given_by_make refusal.Device of_make = tt
 given_by_make refusal.NoMemory of_make = tt
 given_by_make _ of_make = absurd of_make
 
-pub given_by_demo : (why : Refusal) → IsOfDemo why → IsGiven why
+pub given_by_demo : (why : Refusal) → IsOfDemo why → HasRefusalLine why
 given_by_demo refusal.Started of_demo = tt
 given_by_demo refusal.InitThere of_demo = tt
 given_by_demo (refusal.TickLimit ticks) of_demo = tt

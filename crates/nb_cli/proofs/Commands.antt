@@ -6,7 +6,7 @@ use Rattle.nb_format.specs.Digits.{number_of}
 use Rattle.nb_engine.specs.declared.going.Pace.{Pace}
 use Rattle.nb_cli.specs.declared.words.Job.{Job}
 use Rattle.nb_cli.specs.declared.words.Job.TheVariants as job
-use Rattle.nb_cli.specs.Words.{Setting, of_pages, of_walks, Kind, ends_options, apart, attached, unknown, argument, kind_of, Numbers, no_numbers, with_argument, with_value, more_numbers, arguments_of, at_word, numbers_from, numbers_behind, usual_pages, usual_walks, IsGivenOr, IsPaceOf, IsNamed, IsJob, IsPaced}
+use Rattle.nb_cli.specs.Words.{OptionName, of_pages, of_walks, Kind, ends_options, apart, attached, unknown, argument, kind_of, Numbers, no_numbers, with_argument, with_value, more_numbers, arguments_of, at_word, numbers_from, numbers_behind, usual_pages, usual_walks, IsGivenOr, IsPaceOf, IsNamed, IsJob, IsPaced}
 
 -- ---- the numbers of a command
 
@@ -124,11 +124,11 @@ small_argument word rest numbers is before = by (number_of word) rest refl refl 
       subst (λ (x : Numbers). AreSmall x.arguments) same (small_number word n spells, before r are)
 
 -- with the value of an option more
-small_value : (setting : Setting) (word : List ℕ) (rest : Option Numbers) (numbers : Numbers)
+small_value : (setting : OptionName) (word : List ℕ) (rest : Option Numbers) (numbers : Numbers)
     → more_numbers (with_value setting) word rest ≡ Some numbers
     → ((r : Numbers) → rest ≡ Some r → AreSmall r.arguments) → AreSmall numbers.arguments
 small_value setting word rest numbers is before = by setting (number_of word) rest refl is where
-  by : (s : Setting) (n : Option ℕ) (r : Option Numbers) → rest ≡ r
+  by : (s : OptionName) (n : Option ℕ) (r : Option Numbers) → rest ≡ r
       → option_and_then (λ m. option_map (with_value s m) r) n ≡ Some numbers → AreSmall numbers.arguments
   by s None r are is = absurd (cc)
   by s (Some n) None are is = absurd (cc)
@@ -146,7 +146,7 @@ small_arguments (word ∷ words) numbers is =
     small_argument word (arguments_of words) numbers is (λ r are. small_arguments words r are)
 
 small_kind : (kind : Kind) (word : List ℕ) (words : List (List ℕ)) (numbers : Numbers)
-    → ((setting : Setting) (r : Numbers) → numbers_from (Some setting) words ≡ Some r → AreSmall r.arguments)
+    → ((setting : OptionName) (r : Numbers) → numbers_from (Some setting) words ≡ Some r → AreSmall r.arguments)
     → ((r : Numbers) → numbers_from None words ≡ Some r → AreSmall r.arguments)
     → at_word kind word (arguments_of words) (λ before. numbers_from before words) ≡ Some numbers
     → AreSmall numbers.arguments
@@ -165,11 +165,11 @@ small_none numbers is =
     let same : no_numbers ≡ numbers = cc in
     subst (λ (x : Numbers). AreSmall x.arguments) same tt
 
-no_value : (setting : Setting) (numbers : Numbers) → numbers_from (Some setting) [] ≡ Some numbers → AreSmall numbers.arguments
+no_value : (setting : OptionName) (numbers : Numbers) → numbers_from (Some setting) [] ≡ Some numbers → AreSmall numbers.arguments
 unfolding numbers_from
 no_value setting numbers is = let none : None ≡ Some numbers = is in absurd (cc)
 
-small_from : (before : Option Setting) (words : List (List ℕ)) (numbers : Numbers) → numbers_from before words ≡ Some numbers
+small_from : (before : Option OptionName) (words : List (List ℕ)) (numbers : Numbers) → numbers_from before words ≡ Some numbers
     → AreSmall numbers.arguments
 unfolding numbers_from
 small_from None [] numbers is = small_none numbers is

@@ -6,7 +6,7 @@ use Rattle.nb_host.specs.declared.host.HostError.{HostError}
 use Rattle.nb_host.specs.declared.host.HostError.TheVariants.{Fault, NoMemory}
 use Rattle.nb_host.specs.Crashes.{Stays}
 use Rattle.nb_host.specs.Image.{Image, SaysPart}
-use Rattle.nb_host.specs.Meaning.{HostModel, Leads, Tally, Ran, RanSyncing, Spoke, IsDurable}
+use Rattle.nb_host.specs.Meaning.{HostModel, Leads, CallTally, Ran, RanSyncing, RanSaying, IsDurable}
 use Rattle.nb_host.proofs.Callers.{goes_on, stays_both, stopped_after, ok_is_no_error, counts_after, counts_as, counts_of_ran, ran_by}
 use Rattle.nb_engine.specs.declared.refusal.Refusal.{Refusal}
 use Rattle.nb_engine.specs.declared.refusal.Refusal.TheVariants as refusal
@@ -31,9 +31,9 @@ module _ {H : Type 0} {m : HostModel H} {old new : H} where
     count = ran.count;
     rose = ran.rose;
     spared = ran.spared;
-    refused = λ _. ap (λ (t : Tally). t.refused_says channels.Err) ran.tally;
-    heard = λ _ _. ap (λ (t : Tally). t.refused_says channels.Out) ran.tally;
-    synced = λ _ _. let same = ap (λ (t : Tally). t.syncs) ran.tally in omega (arith, same);
+    refused = λ _. ap (λ (t : CallTally). t.refused_says channels.Err) ran.tally;
+    heard = λ _ _. ap (λ (t : CallTally). t.refused_says channels.Out) ran.tally;
+    synced = λ _ _. let same = ap (λ (t : CallTally). t.syncs) ran.tally in omega (arith, same);
   }
 
   pub session_syncing : {T : Type 0} {syncs : ℕ} {by : Image → Image → Type 0} {result : Result T Refusal}
@@ -50,7 +50,7 @@ module _ {H : Type 0} {m : HostModel H} {old new : H} where
 
   -- a say on Out
   pub session_said : {T : Type 0} {line : List ℕ} {answer : Result (Unit {0}) HostError} {result : Result T Refusal}
-      → Spoke m channels.Out line old new answer → (result ≡ Err refusal.Device → answer ≡ Err Fault)
+      → RanSaying m channels.Out line old new answer → (result ≡ Err refusal.Device → answer ≡ Err Fault)
       → (answer ≡ Err Fault → result ≡ Err refusal.Device) → (IsOk result → IsOk answer)
       → RanSession m (SaysPart channels.Out line) old new result
   session_said spoke there back fine = record {
@@ -145,7 +145,7 @@ said_device NoMemory is faulted = absurd (other (inside (sym is ∙ faulted))) w
   other same = cc
 
 pub session_unsaid : {H T : Type 0} {m : HostModel H} {old new : H} {line : List ℕ} {answer : Result (Unit {0}) HostError}
-    {result : Result T Refusal} (error : HostError) → Spoke m channels.Out line old new answer → answer ≡ Err error
+    {result : Result T Refusal} (error : HostError) → RanSaying m channels.Out line old new answer → answer ≡ Err error
     → result ≡ Err (of_host error) → RanSession m (SaysPart channels.Out line) old new result
 session_unsaid error spoke was is =
     session_said spoke (λ faulted. was ∙ ap Err (said_device error is faulted)) (λ faulted. is ∙ ap Err (back error (inside' (sym was ∙ faulted))))

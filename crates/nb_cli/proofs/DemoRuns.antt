@@ -3,10 +3,10 @@ use Rattle.std.proofs.Common.{◌≡◌, ◌≢◌, ◌≤◌, ◌⊎◌, ◌∙
 use Rattle.nb_host.specs.declared.host.Channel.TheVariants as channels
 use Rattle.nb_host.specs.Crashes.{Stays}
 use Rattle.nb_host.specs.Image.{Image, Says, SaysPart}
-use Rattle.nb_host.specs.Meaning.{HostModel, Leads, Ran, RanSyncing, IsDurable}
+use Rattle.nb_host.specs.Meaning.{HostModel, Ran, RanSyncing, IsDurable}
 use Rattle.nb_host.proofs.Callers.{leads_more, leads_after, ok_is_no_error}
 use Rattle.nb_host.specs.declared.host.HostError.{HostError}
-use Rattle.nb_host.specs.declared.host.HostError.TheVariants.{Fault, NoMemory}
+use Rattle.nb_host.specs.declared.host.HostError.TheVariants.{NoMemory}
 use Rattle.nb_model.specs.Leapfrog.{escaped_count}
 use Rattle.nb_model.specs.Legs.{directions_to}
 use Rattle.nb_model.specs.Limits.{most_ticks}
@@ -17,14 +17,14 @@ use Rattle.nb_engine.specs.declared.refusal.Refusal.TheVariants as refusal
 use Rattle.nb_engine.specs.Frame.{RanSession}
 use Rattle.nb_engine.specs.Sessions.{ticks_to, GoLeads}
 use Rattle.nb_engine.specs.Files.{params_file, init_file}
-use Rattle.nb_engine.specs.Refusal.{NeedsNoCause, of_host}
+use Rattle.nb_engine.specs.Refusal.{NeedsNoCause}
 use Rattle.nb_engine.specs.Represents.{snap_of}
 use Rattle.nb_engine.specs.Start.{started, StartLeads}
 use Rattle.nb_engine.proofs.Callers.{length-steps}
-use Rattle.nb_cli.specs.Make.{made_bodies, made_params, made_start, IsMadeFrom, MakeLeads, IsThere, IsOfMake}
+use Rattle.nb_cli.specs.Make.{made_bodies, made_params, made_start, IsMadeFrom, MakeLeads, IsMakeRefused, IsOfMake}
 use Rattle.nb_cli.specs.Telling.{IsStartDone, IsGoDone, IsDoneThenSaid, LeadsThenSays, LeadsWithoutErr}
-use Rattle.nb_cli.specs.Demo.{CanDemo, IsOfDemo, demo_list, coordinate_sum, summary_line, IsDemoDone, DemoLeads, IsUnlike}
-use Rattle.nb_cli.proofs.DemoCalls.{session_ran, session_syncing, session_by, session_as, session_refused, session_then, durable_stays, leads_behind}
+use Rattle.nb_cli.specs.Demo.{IsDemoReady, IsOfDemo, demo_list, coordinate_sum, summary_line, IsDemoDone, DemoLeads, IsUnlike}
+use Rattle.nb_cli.proofs.DemoCalls.{session_ran, session_syncing, session_by, session_as, session_then, durable_stays, leads_behind}
 use Rattle.nb_cli.proofs.MadeStarts.{length-made}
 use Rattle.nb_cli.proofs.DemoStages.{IsStartedOn, started_on, led_on, leads_making, leads_starting, leads_going, leads_summing, demo_done}
 
@@ -36,19 +36,19 @@ module _ {H : Type 0} (m : HostModel H) (seed count target : ℕ) where
 
   -- the two files were made
   pub record WasMade (old now : Image) : Type 0 where
-    pub can : CanDemo old.file target
+    pub can : IsDemoReady old.file target
     pub makes : IsMadeFrom seed count old now
 
   -- and the run was started
   pub record WasStarted (old now : Image) : Type 0 where
-    pub can : CanDemo old.file target
+    pub can : IsDemoReady old.file target
     pub made : Image
     pub makes : IsMadeFrom seed count old made
     pub told : IsDoneThenSaid (StartLeads m.crashes.is_honest) IsStartDone made now
 
   -- and led
   pub record WasLed (old now : Image) : Type 0 where
-    pub can : CanDemo old.file target
+    pub can : IsDemoReady old.file target
     pub made : Image
     pub makes : IsMadeFrom seed count old made
     pub middle : Image
@@ -95,14 +95,14 @@ module _ {H : Type 0} (m : HostModel H) (seed count target : ℕ) where
       (λ start image same. record { leads = inl same; err = ap (λ (i : Image). i.said channels.Err) same }))
 
   pub found_so : {T : Type 0} {old new : H} {result : Result T Refusal} → IsDurable m old → IsOk result
-      → Ran m refusal.Device Stays old new result → (IsTrue m.tells → CanDemo (m.contents old).file target)
-      → IsSoFar (λ start image. CanDemo start.file target × (image ≡ start)) old new
+      → Ran m refusal.Device Stays old new result → (IsTrue m.tells → IsDemoReady (m.contents old).file target)
+      → IsSoFar (λ start image. IsDemoReady start.file target × (image ≡ start)) old new
   found_so durable ok ran can =
       next_so durable ok (found_ran ran) (durable_stays durable ran.leads) (λ tells. (can tells, ran.leads.contents tells))
 
   -- the files are made
   pub made_ran : {T : Type 0} {old middle new : H} {syncs : ℕ} {result : Result T Refusal}
-      → IsSoFar (λ start image. CanDemo start.file target × (image ≡ start)) old middle
+      → IsSoFar (λ start image. IsDemoReady start.file target × (image ≡ start)) old middle
       → RanSyncing m syncs refusal.Device (MakeLeads seed count) middle new result
       → RanSession m (DemoLeads honest seed count target) old new result
   made_ran so ran =
@@ -111,7 +111,7 @@ module _ {H : Type 0} (m : HostModel H) (seed count target : ℕ) where
       leads_making honest seed count target facts.0 (subst (λ (i : Image). MakeLeads seed count i image) facts.1 step))
 
   pub made_so : {T : Type 0} {old middle new : H} {syncs : ℕ} {result : Result T Refusal} → IsOk result
-      → IsSoFar (λ start image. CanDemo start.file target × (image ≡ start)) old middle
+      → IsSoFar (λ start image. IsDemoReady start.file target × (image ≡ start)) old middle
       → RanSyncing m syncs refusal.Device (MakeLeads seed count) middle new result → IsDurable m new
       → (IsTrue m.tells → IsMadeFrom seed count (m.contents middle) (m.contents new)) → IsSoFar WasMade old new
   made_so {new = new} ok so ran durable makes =
@@ -225,7 +225,7 @@ needless_of_demo (inr memory) = subst IsOfDemo (sym memory) tt
 
 pub unlike_of_demo : {H : Type 0} {m : HostModel H} {file : ℕ} {Written : Type 0} {why : Refusal} → IsUnlike m file Written why
     → IsOfDemo why
-unlike_of_demo unlike = subst IsOfDemo (sym unlike.shown) tt
+unlike_of_demo unlike = subst IsOfDemo (sym unlike.named) tt
 
 pub made_of_demo : (why : Refusal) → IsOfMake why → IsOfDemo why
 made_of_demo refusal.InitThere of_make = tt
@@ -239,8 +239,8 @@ pub never_behind : {H : Type 0} (m : HostModel H) {why : Refusal} {Owed : Type 0
 never_behind m needless told caused = absurd (caused (needless told))
 
 -- `make` isn't refused behind a look that found nothing
-pub made_needless : {files now : ℕ → List ℕ} {target : ℕ} {why : Refusal} → CanDemo files target → now ≡ files
-    → NeedsNoCause why ⊎ IsThere now why → NeedsNoCause why
+pub made_needless : {files now : ℕ → List ℕ} {target : ℕ} {why : Refusal} → IsDemoReady files target → now ≡ files
+    → NeedsNoCause why ⊎ IsMakeRefused now why → NeedsNoCause why
 made_needless can same (inl needless) = needless
 made_needless can same (inr there) = elim there.some [
   | inl params ↦ absurd (params (ap (λ (f : ℕ → List ℕ). f params_file) same ∙ can.can.params))

@@ -7,7 +7,7 @@ use Rattle.nb_host.specs.Meaning.{HostModel, Leads, IsDurable}
 use Rattle.nb_host.proofs.Callers.{leads_more}
 use Rattle.nb_model.specs.Limits.{most_ticks}
 use Rattle.nb_journal.specs.Counters.{counters_of}
-use Rattle.nb_journal.specs.Form.{Log, IsJournal, progress_of}
+use Rattle.nb_journal.specs.Form.{Log, progress_of}
 use Rattle.nb_journal.specs.Offsets.{journal_file}
 use Rattle.nb_journal.proofs.Callers.{one_journal}
 use Rattle.nb_engine.specs.declared.refusal.Refusal.{Refusal}
@@ -15,11 +15,11 @@ use Rattle.nb_engine.specs.declared.refusal.Refusal.TheVariants as refusal
 use Rattle.nb_engine.specs.Histories.{IsHistory}
 use Rattle.nb_engine.specs.Refusal.{NeedsNoCause}
 use Rattle.nb_engine.specs.Represents.{RepresentsRun}
-use Rattle.nb_engine.specs.Sessions.{ticks_to, GoLeads, IsNoLeg, IsGoRefused, IsSlotSpoilt, IsOfGo}
+use Rattle.nb_engine.specs.Sessions.{ticks_to, GoLeads, IsNoLeg, IsGoRefused, IsSlotDamaged, IsOfGo}
 use Rattle.nb_engine.specs.Start.{Start, started, StartLeads}
 use Rattle.nb_engine.specs.Steps.{HasState}
 use Rattle.nb_cli.specs.Telling.{IsStartDone, IsGoDone, LeadsWithoutErr, LeadsThenSays}
-use Rattle.nb_cli.specs.Demo.{IsOfDemo, go_behind_start}
+use Rattle.nb_cli.specs.Demo.{IsOfDemo, go_after_start}
 use Rattle.nb_cli.proofs.Causes.{not_shown}
 use Rattle.nb_cli.proofs.MadeStarts.{go_needless}
 use Rattle.nb_cli.proofs.Sessions.{session_leads, session_told}
@@ -69,7 +69,7 @@ module _ {H : Type 0} (m : HostModel H) where
 
 -- a run that was started has its state
 started_not_spoilt : (start : Start) (image : Image) (why : Refusal) → IsHistory (started start) → RepresentsRun (started start) image
-    → IsSlotSpoilt image.file why → ⊥
+    → IsSlotDamaged image.file why → ⊥
 started_not_spoilt start image why is stands spoilt =
     let same : spoilt.log ≡ (started start).log =
     one_journal spoilt.log (started start).log (image.file journal_file) spoilt.journal stands.journal.journal in
@@ -88,7 +88,7 @@ started_has_leg target start log why same few none = elim (subst (λ (l : Log). 
 -- so it isn't refused by what the folder holds
 pub started_goes : (target : ℕ) (start : Start) (image : Image) (why : Refusal) → IsHistory (started start)
     → RepresentsRun (started start) image → ticks_to target (started start) ≤ most_ticks
-    → NeedsNoCause why ⊎ IsGoRefused target image.file why ⊎ IsSlotSpoilt image.file why → NeedsNoCause (go_behind_start why)
+    → NeedsNoCause why ⊎ IsGoRefused target image.file why ⊎ IsSlotDamaged image.file why → NeedsNoCause (go_after_start why)
 started_goes target start image why is stands few (inl needless) = go_needless why needless
 started_goes target start image why is stands few (inr (inl (inl none))) =
     absurd (not_shown (started start).log stands.journal.journal none)
@@ -97,7 +97,7 @@ started_goes target start image why is stands few (inr (inl (inr leg))) =
     absurd (started_has_leg target start leg.0 why same few leg.2)
 started_goes target start image why is stands few (inr (inr spoilt)) = absurd (started_not_spoilt start image why is stands spoilt)
 
-pub go_of_demo : (why : Refusal) → IsOfGo why → IsOfDemo (go_behind_start why)
+pub go_of_demo : (why : Refusal) → IsOfGo why → IsOfDemo (go_after_start why)
 go_of_demo refusal.NotStarted of_go = tt
 go_of_demo (refusal.LegOpen target time) of_go = tt
 go_of_demo (refusal.TickLimit ticks) of_go = tt

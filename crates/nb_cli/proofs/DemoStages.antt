@@ -5,7 +5,6 @@ use Rattle.std.proofs.lemmas.Bool.{cases_eq}
 use Rattle.nb_host.specs.declared.host.Channel.{Channel}
 use Rattle.nb_host.specs.declared.host.Channel.TheVariants as channels
 use Rattle.nb_host.specs.Image.{Image, Says, SaysPart}
-use Rattle.nb_model.specs.declared.body.Body.{Body}
 use Rattle.nb_model.specs.Leapfrog.{escaped_count}
 use Rattle.nb_format.specs.Lines.{started_line, done_line}
 use Rattle.nb_format.specs.Snapshot.{IsSnapshot}
@@ -14,13 +13,13 @@ use Rattle.nb_journal.specs.Offsets.{journal_file}
 use Rattle.nb_engine.specs.Files.{params_file, init_file}
 use Rattle.nb_engine.specs.Histories.{History, IsHistory, run_of, ticks_of, legged}
 use Rattle.nb_engine.specs.Represents.{snap_of, RepresentsRun}
-use Rattle.nb_engine.specs.Sessions.{aimed_at, ticks_to, GoLeads, IsLed}
-use Rattle.nb_engine.specs.Start.{Start, started, RepresentsStart, IsStartReady, StartLeads}
-use Rattle.nb_engine.specs.Steps.{lines_behind, SaidPrefixOf, played}
+use Rattle.nb_engine.specs.Sessions.{ticks_to, GoLeads, IsLed}
+use Rattle.nb_engine.specs.Start.{Start, started, RepresentsStart, StartLeads}
+use Rattle.nb_engine.specs.Steps.{lines_after, SaidPrefixOf, played}
 use Rattle.nb_engine.proofs.Callers.{represents_kept, started_history}
-use Rattle.nb_cli.specs.Make.{made_bodies, made_start, HasMade, CanMake, IsMadeFrom, IsPartlyMade, MakeLeads}
+use Rattle.nb_cli.specs.Make.{made_bodies, made_start, HasMade, IsMadeFrom, MakeLeads}
 use Rattle.nb_cli.specs.Telling.{IsStartDone, IsGoDone, IsDoneThenSaid, LeadsThenSays, LeadsWithoutErr}
-use Rattle.nb_cli.specs.Demo.{CanDemo, demo_list, demo_history, summary_line, demo_text, IsDemoDone, DemoLeads}
+use Rattle.nb_cli.specs.Demo.{IsDemoReady, demo_list, demo_history, summary_line, demo_text, IsDemoDone, DemoLeads}
 use Rattle.nb_cli.proofs.DemoCalls.{Out≢Err}
 use Rattle.nb_cli.proofs.MadeStarts.{length-made, made_ready, made_only}
 use Rattle.nb_cli.proofs.DemoTexts.{front_none, front_more, front_behind, lines_front, lines_none, aimed_away, aimed_ticks, led_state, led_ticks, last_snapshot_led}
@@ -57,7 +56,7 @@ same_represents h {old = old} {new = new} same stands =
     (λ j some within. file_at same (snap_of j))
 
 -- the journal is none still, where the two files were made
-pub fresh_made : {seed count target : ℕ} {old made : Image} → CanDemo old.file target → IsMadeFrom seed count old made
+pub fresh_made : {seed count target : ℕ} {old made : Image} → IsDemoReady old.file target → IsMadeFrom seed count old made
     → IsFresh (made.file journal_file)
 fresh_made can makes =
     let same = makes.others.others journal_file (two_apart params_file init_file journal_file (λ is. omega (arith, is)) (λ is. omega (arith, is))) in
@@ -71,7 +70,7 @@ module _ (honest : Bool) (seed count target : ℕ) where
   first_line = started_line count 0
 
   abbrev tick_lines : List ℕ
-  tick_lines = lines_behind (run_of (demo_history seed count target)) 0 target
+  tick_lines = lines_after (run_of (demo_history seed count target)) 0 target
 
   abbrev last_line : List ℕ
   last_line = done_line target target (escaped_count (demo_list seed count target))
@@ -94,7 +93,7 @@ module _ (honest : Bool) (seed count target : ℕ) where
       did.line_is ∙ ap (λ (s : Start). started_line (length s.bodies) s.time) same
       ∙ ap (λ (n : ℕ). started_line n 0) (length-made seed count)
 
-  pub started_on : {old made new : Image} → CanDemo old.file target → IsMadeFrom seed count old made
+  pub started_on : {old made new : Image} → IsDemoReady old.file target → IsMadeFrom seed count old made
       → IsDoneThenSaid (StartLeads honest) IsStartDone made new → IsStartedOn old new
   started_on {made = made} {new = new} can makes told =
       let did = told.done in
@@ -140,9 +139,9 @@ module _ (honest : Bool) (seed count target : ℕ) where
       let gone : did.done.gone ≡ escaped_count (demo_list seed count target) =
       led.gone_is ∙ ap escaped_count (led_state target start_made) in
       record {
-        said = led.said ∙ ap (λ (k : ℕ). old.said channels.Out ++ lines_behind (run_of h) k (ticks_to target (started start_made)))
+        said = led.said ∙ ap (λ (k : ℕ). old.said channels.Out ++ lines_after (run_of h) k (ticks_to target (started start_made)))
             (aimed_ticks target start_made)
-            ∙ ap (λ (n : ℕ). old.said channels.Out ++ lines_behind (run_of h) 0 n) ticks_are;
+            ∙ ap (λ (n : ℕ). old.said channels.Out ++ lines_after (run_of h) 0 n) ticks_are;
         line_is = did.line_is ∙ ap (λ (t : ℕ). done_line t did.done.ticks did.done.gone) did.there
             ∙ ap (λ (k : ℕ). done_line target k did.done.gone) ticks ∙ ap (done_line target target) gone;
       }
@@ -206,7 +205,7 @@ module _ (honest : Bool) (seed count target : ℕ) where
           | inr some ↦
               let aimed : legged target (started start_made) ≡ demo_history seed count target =
               sym (aimed_away target (started start_made) some) in
-              subst (λ (h : History). SaidPrefixOf (lines_behind (run_of h) 0 target) before now) aimed
+              subst (λ (h : History). SaidPrefixOf (lines_after (run_of h) 0 target) before now) aimed
               (lines_front (run_of (legged target (started start_made))) 0 on.1.done target before now (omega (arith, on.1.few, ticks_are))
               on.1.said)
         ]
@@ -257,7 +256,7 @@ module _ (honest : Bool) (seed count target : ℕ) where
 
   -- ---- at each moment
 
-  pub leads_making : {old image : Image} → CanDemo old.file target → MakeLeads seed count old image
+  pub leads_making : {old image : Image} → IsDemoReady old.file target → MakeLeads seed count old image
       → DemoLeads honest seed count target old image
   leads_making can (inl same) = record { leads = inl same; err = ap (λ (i : Image). i.said channels.Err) same }
   leads_making {old = old} {image = image} can (inr part) =
@@ -277,7 +276,7 @@ module _ (honest : Bool) (seed count target : ℕ) where
         err = ap (λ (f : Channel → List ℕ). f channels.Err) part.others.said;
       }
 
-  pub leads_starting : {old made image : Image} → CanDemo old.file target → IsMadeFrom seed count old made
+  pub leads_starting : {old made image : Image} → IsDemoReady old.file target → IsMadeFrom seed count old made
       → LeadsWithoutErr (LeadsThenSays (StartLeads honest) IsStartDone) made image → DemoLeads honest seed count target old image
   leads_starting {made = made} can makes step = record {
     leads = inr (record {
@@ -288,7 +287,7 @@ module _ (honest : Bool) (seed count target : ℕ) where
     err = step.err ∙ ap (λ (f : Channel → List ℕ). f channels.Err) makes.others.said;
   }
 
-  pub leads_going : {old made middle image : Image} → CanDemo old.file target → IsMadeFrom seed count old made
+  pub leads_going : {old made middle image : Image} → IsDemoReady old.file target → IsMadeFrom seed count old made
       → IsDoneThenSaid (StartLeads honest) IsStartDone made middle
       → LeadsWithoutErr (LeadsThenSays (GoLeads honest target) (IsGoDone target)) middle image → DemoLeads honest seed count target old image
   leads_going {made = made} {middle = middle} can makes told step =
@@ -302,7 +301,7 @@ module _ (honest : Bool) (seed count target : ℕ) where
         err = step.err ∙ begun.err;
       }
 
-  pub leads_summing : {old made middle last image : Image} → CanDemo old.file target → IsMadeFrom seed count old made
+  pub leads_summing : {old made middle last image : Image} → IsDemoReady old.file target → IsMadeFrom seed count old made
       → IsDoneThenSaid (StartLeads honest) IsStartDone made middle
       → IsDoneThenSaid (GoLeads honest target) (IsGoDone target) middle last
       → SaysPart channels.Out sum_line last image → DemoLeads honest seed count target old image
@@ -332,7 +331,7 @@ module _ (honest : Bool) (seed count target : ℕ) where
 
   -- ---- at the end
 
-  pub demo_done : {old made middle last new : Image} → CanDemo old.file target → IsMadeFrom seed count old made
+  pub demo_done : {old made middle last new : Image} → IsDemoReady old.file target → IsMadeFrom seed count old made
       → IsDoneThenSaid (StartLeads honest) IsStartDone made middle
       → IsDoneThenSaid (GoLeads honest target) (IsGoDone target) middle last
       → Says channels.Out sum_line last new → IsDemoDone honest seed count target old new

@@ -10,17 +10,17 @@ use Rattle.nb_host.specs.Image.{Image}
 use Rattle.nb_model.specs.declared.body.Body.{Body}
 use Rattle.nb_model.specs.declared.way.Way.{Way}
 use Rattle.nb_model.specs.declared.way.Way.TheVariants.{Forward, Back}
-use Rattle.nb_model.specs.Leapfrog.{steps, escaped_count}
-use Rattle.nb_model.specs.Legs.{directions_to, directions, IsSnapshotDue}
+use Rattle.nb_model.specs.Leapfrog.{steps}
+use Rattle.nb_model.specs.Legs.{directions_to, directions}
 use Rattle.nb_format.specs.Snapshot.{IsSnapshot}
 use Rattle.nb_journal.specs.Form.{progress_of}
 use Rattle.nb_engine.specs.declared.going.Done.{Done}
 use Rattle.nb_engine.specs.Files.{init_file}
-use Rattle.nb_engine.specs.Histories.{Run, state_of, time_of, History, run_of, ticks_of, IsDueAfter, legged}
-use Rattle.nb_engine.specs.Represents.{snap_of, IsOpened}
+use Rattle.nb_engine.specs.Histories.{Run, state_at, time_at, History, run_of, ticks_of, IsDueAfter, legged}
+use Rattle.nb_engine.specs.Represents.{snap_of, HasOpenGate}
 use Rattle.nb_engine.specs.Sessions.{aimed_at, ticks_to, IsLed}
 use Rattle.nb_engine.specs.Start.{Start, started}
-use Rattle.nb_engine.specs.Steps.{tick_line_of, lines_behind, SaidPrefixOf, SaidLinesOf, played}
+use Rattle.nb_engine.specs.Steps.{tick_line_of, lines_after, SaidPrefixOf, SaidLinesOf, played}
 use Rattle.nb_engine.proofs.Callers.{run-ticked, ticks-ticked, time-now}
 use Rattle.nb_cli.specs.Once.{list_at}
 
@@ -51,33 +51,33 @@ front_behind first text old between new said front = (
 
 -- those of the first ticks are a front of all
 lines_rest : (run : Run) (k few many : ℕ) → few ≤ many
-    → (rest : List ℕ) × (lines_behind run k many ≡ lines_behind run k few ++ rest)
+    → (rest : List ℕ) × (lines_after run k many ≡ lines_after run k few ++ rest)
 lines_rest run k few zero fewer =
     let none : few ≡ 0 = omega arith in
-    ([], ap (λ (i : ℕ). lines_behind run k i) (sym none) ∙ sym (append-nil (lines_behind run k few)))
+    ([], ap (λ (i : ℕ). lines_after run k i) (sym none) ∙ sym (append-nil (lines_after run k few)))
 lines_rest run k few (suc many) fewer = elim (cases_lt few (suc many)) [
   | inl below ↦
       let line = tick_line_of run (suc (k + many)) in
       let before = lines_rest run k few many (omega arith) in
-      (before.0 ++ line, ap (λ (l : List ℕ). l ++ line) before.1 ∙ append_assoc (lines_behind run k few) before.0 line)
+      (before.0 ++ line, ap (λ (l : List ℕ). l ++ line) before.1 ∙ append_assoc (lines_after run k few) before.0 line)
   | inr above ↦
       let same : few ≡ suc many = omega arith in
-      ([], ap (λ (i : ℕ). lines_behind run k i) (sym same) ∙ sym (append-nil (lines_behind run k few)))
+      ([], ap (λ (i : ℕ). lines_after run k i) (sym same) ∙ sym (append-nil (lines_after run k few)))
 ]
 
-lines_more : (run : Run) (k few many : ℕ) (old new : List ℕ) → few ≤ many → SaidPrefixOf (lines_behind run k few) old new
-    → SaidPrefixOf (lines_behind run k many) old new
+lines_more : (run : Run) (k few many : ℕ) (old new : List ℕ) → few ≤ many → SaidPrefixOf (lines_after run k few) old new
+    → SaidPrefixOf (lines_after run k many) old new
 lines_more run k few many old new fewer front =
     let more = lines_rest run k few many fewer in
-    subst (λ (text : List ℕ). SaidPrefixOf text old new) (sym more.1) (front_more (lines_behind run k few) more.0 old new front)
+    subst (λ (text : List ℕ). SaidPrefixOf text old new) (sym more.1) (front_more (lines_after run k few) more.0 old new front)
 
 -- what was said while at most so many ticks were taken
 pub lines_front : (run : Run) (k done most : ℕ) (old new : List ℕ) → done ≤ most → SaidLinesOf run k done old new
-    → SaidPrefixOf (lines_behind run k most) old new
-lines_front run k zero most old new fewer said = front_none (lines_behind run k most) old new said
+    → SaidPrefixOf (lines_after run k most) old new
+lines_front run k zero most old new fewer said = front_none (lines_after run k most) old new said
 lines_front run k (suc done) most old new fewer said =
     lines_more run k (suc done) most old new fewer
-    (front_behind (lines_behind run k done) (tick_line_of run (suc (k + done))) old (old ++ lines_behind run k done) new refl said)
+    (front_behind (lines_after run k done) (tick_line_of run (suc (k + done))) old (old ++ lines_after run k done) new refl said)
 
 -- and nothing where there was none
 pub lines_none : (run : Run) (k done : ℕ) (old new : List ℕ) → done ≤ 0 → SaidLinesOf run k done old new → new ≡ old
@@ -125,32 +125,32 @@ aimed_ticks target start = elim (cases_eq target start.time) [
 
 -- The list behind the ticks to the target is that of `once`.
 pub aimed_state : (target : ℕ) (start : Start)
-    → state_of (run_of (aimed_at target (started start))) (ticks_to target (started start)) ≡ list_at target start
+    → state_at (run_of (aimed_at target (started start))) (ticks_to target (started start)) ≡ list_at target start
 aimed_state target start = elim (cases_eq target start.time) [
   | inl same ↦
       let none : ticks_to target (started start) ≡ 0 = omega (arith, same) in
-      ap (λ (h : History). state_of (run_of h) (ticks_to target (started start))) (aimed_here target (started start) same)
-      ∙ ap (λ (k : ℕ). state_of (run_of (started start)) k) none
+      ap (λ (h : History). state_at (run_of h) (ticks_to target (started start))) (aimed_here target (started start) same)
+      ∙ ap (λ (k : ℕ). state_at (run_of (started start)) k) none
       ∙ ap (λ (ways : List Way). steps start.params ways start.bodies) (sym (no_directions start.time target same))
   | inr apart ↦
       let ways = directions_to start.time target in
       let all : take (ticks_to target (started start)) (ways ++ []) ≡ ways =
       ap (take (ticks_to target (started start))) (append-nil ways)
       ∙ take_all (ticks_to target (started start)) ways (omega (arith, length-directions_to start.time target)) in
-      ap (λ (h : History). state_of (run_of h) (ticks_to target (started start))) (aimed_away target (started start) apart)
+      ap (λ (h : History). state_at (run_of h) (ticks_to target (started start))) (aimed_away target (started start) apart)
       ∙ ap (λ (w : List Way). steps start.params w start.bodies) all
 ]
 
 -- So is that of a run that was led there.
 pub led_state : (target : ℕ) (start : Start)
-    → state_of (run_of (played (ticks_to target (started start)) (aimed_at target (started start))))
+    → state_at (run_of (played (ticks_to target (started start)) (aimed_at target (started start))))
     (ticks_of (played (ticks_to target (started start)) (aimed_at target (started start)))) ≡ list_at target start
 led_state target start =
     let n = ticks_to target (started start) in
     let h = aimed_at target (started start) in
     let ticks : ticks_of (played n h) ≡ n = omega (arith, ticks-played n h, aimed_ticks target start) in
-    ap (λ (run : Run). state_of run (ticks_of (played n h))) (run-played n h)
-    ∙ ap (λ (k : ℕ). state_of (run_of h) k) ticks ∙ aimed_state target start
+    ap (λ (run : Run). state_at run (ticks_of (played n h))) (run-played n h)
+    ∙ ap (λ (k : ℕ). state_at (run_of h) k) ticks ∙ aimed_state target start
 
 pub led_ticks : (target : ℕ) (start : Start)
     → ticks_of (played (ticks_to target (started start)) (aimed_at target (started start))) ≡ ticks_to target (started start)
@@ -162,8 +162,8 @@ led_ticks target start =
 
 -- that of the last tick is there
 snapshot_led : {n : ℕ} {h : History} {before image : Image} {done : Done} → IsLed n h before done image → 1 ≤ ticks_of (played n h)
-    → IsSnapshot (image.file (snap_of (ticks_of (played n h)))) (state_of (run_of (played n h)) (ticks_of (played n h)))
-    (time_of (run_of (played n h)) (ticks_of (played n h)))
+    → IsSnapshot (image.file (snap_of (ticks_of (played n h)))) (state_at (run_of (played n h)) (ticks_of (played n h)))
+    (time_at (run_of (played n h)) (ticks_of (played n h)))
 snapshot_led {n = n} {h = h} {image = image} led some =
     let run = run_of (played n h) in
     let k = ticks_of (played n h) in
@@ -171,7 +171,7 @@ snapshot_led {n = n} {h = h} {image = image} led some =
     led.ended ∙ ap (λ (l : List ℕ). length (directions run.begin l)) (sym (take_all (length run.legs) run.legs (omega arith))) in
     let due : IsDueAfter run k = record { some = some; within = omega (arith, led.ended); due = inr (length run.legs, legs) } in
     let finished = led.complete k due (omega arith) in
-    let opened : IsOpened (image.file (snap_of k)) =
+    let opened : HasOpenGate (image.file (snap_of k)) =
     record { more = omega (arith, finished.whole); open_gate = finished.opened } in
     (led.represents.right k some (omega arith) opened).bytes
 
@@ -188,16 +188,16 @@ last_snapshot_led {image = image} target start zero_is there led file none some 
     elim (cases_eq target 0) [
       | inl is_none ↦ initial is_none
       | inr is_some ↦
-          let time : time_of (run_of (played n h)) (ticks_of (played n h)) ≡ target =
+          let time : time_at (run_of (played n h)) (ticks_of (played n h)) ≡ target =
           sym (time-now (played n h) led.represents.journal.journal.lawful) ∙ sym led.time_is ∙ there in
           let number : snap_of (ticks_of (played n h)) ≡ file = ap snap_of ticks ∙ sym (some is_some) in
           let first : IsSnapshot (image.file (snap_of (ticks_of (played n h))))
-          (state_of (run_of (played n h)) (ticks_of (played n h))) (time_of (run_of (played n h)) (ticks_of (played n h))) =
+          (state_at (run_of (played n h)) (ticks_of (played n h))) (time_at (run_of (played n h)) (ticks_of (played n h))) =
           snapshot_led led (omega (arith, ticks, is_some)) in
           subst (λ (k : ℕ). IsSnapshot (image.file k) (list_at target start) target) number
           (subst (λ (bodies : List Body). IsSnapshot (image.file (snap_of (ticks_of (played n h)))) bodies target) state
           (subst (λ (t : ℕ). IsSnapshot (image.file (snap_of (ticks_of (played n h))))
-          (state_of (run_of (played n h)) (ticks_of (played n h))) t) time first))
+          (state_at (run_of (played n h)) (ticks_of (played n h))) t) time first))
     ] where
       initial : target ≡ 0 → IsSnapshot (image.file file) (list_at target start) target
       initial is_none =

@@ -9,24 +9,19 @@ use Rattle.nb_host.specs.Crashes.{Stays}
 use Rattle.nb_host.specs.Meaning.{HostModel, Leads, IsDurable}
 use Rattle.nb_host.proofs.Callers.{weaken, goes_on, leads_then, stays_contents}
 use Rattle.nb_model.specs.declared.body.Body.{Body}
-use Rattle.nb_model.specs.declared.params.Params.{Params}
-use Rattle.nb_model.specs.Valid.{AreInRange}
-use Rattle.nb_format.specs.declared.params_error.ParamsError.{ParamsError}
-use Rattle.nb_format.specs.ParamsText.{params_of}
 use Rattle.nb_format.specs.Snapshot.{IsFinishedSnapshot}
-use Rattle.nb_format.proofs.CanonicalParams.{params_of-without_edge}
-use Rattle.nb_format.proofs.Snapshots.{one_snapshot, snapshot_whole}
+use Rattle.nb_format.proofs.Snapshots.{snapshot_whole}
 use Rattle.nb_journal.specs.Form.{Log, IsFresh, IsJournal}
 use Rattle.nb_journal.specs.Offsets.{journal_file}
 use Rattle.nb_journal.proofs.Callers.{fresh_alone}
 use Rattle.nb_engine.specs.Files.{params_file, init_file}
-use Rattle.nb_engine.specs.Frame.{IsApart, EachImage}
+use Rattle.nb_engine.specs.Frame.{IsOutsideRun, EachImage}
 use Rattle.nb_engine.specs.declared.going.Pace.{Pace}
 use Rattle.nb_engine.specs.Histories.{Run, legs_in, History, run_of, ticks_of, IsHistory, legged}
 use Rattle.nb_engine.specs.Represents.{snap_of, RepresentsRun, IsSoundImage}
 use Rattle.nb_engine.specs.Sessions.{GoLeads, ResumeLeads}
-use Rattle.nb_engine.specs.Start.{Start, HasStart, started, StartLeads}
-use Rattle.nb_engine.specs.Steps.{lines_behind, tick_line_of, SaidPrefixOf, SaidLinesOf, played, GoesOn}
+use Rattle.nb_engine.specs.Start.{Start, started, StartLeads}
+use Rattle.nb_engine.specs.Steps.{lines_after, tick_line_of, SaidPrefixOf, SaidLinesOf, played, GoesOn}
 use Rattle.nb_engine.proofs.Callers.{run-ticked, ticks-ticked, run-legged, ticks-legged, history-played, represents_kept, started_history, leads_from_durable}
 use Rattle.nb_cli.specs.declared.stop.Stop.{Stop}
 use Rattle.nb_cli.specs.declared.stop.Stop.TheVariants as stop
@@ -35,9 +30,9 @@ use Rattle.nb_cli.specs.declared.words.Job.TheVariants as job
 use Rattle.nb_cli.specs.Telling.{LeadsThenSays}
 use Rattle.nb_cli.specs.Once.{once_file}
 use Rattle.nb_cli.specs.Make.{made_start, IsMadeFrom, IsMakePartlyDone}
-use Rattle.nb_cli.specs.Demo.{CanDemo, demo_text, IsDemoPartlyDone}
+use Rattle.nb_cli.specs.Demo.{IsDemoReady, demo_text, IsDemoPartlyDone}
 use Rattle.nb_cli.specs.Words.{IsJob, IsNoCommand}
-use Rattle.nb_cli.specs.Answer.{IsUntouched, IsOncePartlyDone, IsJobPartlyDone, Touches, RunTouches, HasBegun, HasBegunOrNot, WasReported}
+use Rattle.nb_cli.specs.Answer.{IsUntouched, IsOncePartlyDone, IsJobPartlyDone, Touches, CallTouches, HasBegun, HasBegunOrNot, WasReported}
 use Rattle.nb_cli.specs.Worlds.{IsLater, KeepsSnapshots, TakesTicks, MayAdd, StartsDemo, MayStart, GoesFurther, start_files, IsLeftAlone, Extends, ExtendsOrNot}
 use Rattle.nb_cli.proofs.Commands.{one_job}
 use Rattle.nb_cli.proofs.DemoStages.{IsStartedOn, two_apart, kept_made, same_made, fresh_made, started_on}
@@ -64,7 +59,7 @@ front_grows text old new front = (take front.0 text, front.2)
 lines_grow : (run : Run) (k done : ℕ) (old new : List ℕ) → SaidLinesOf run k done old new → Grows old new
 lines_grow run k zero old new said = same_grows old new said
 lines_grow run k (suc n) old new said =
-    let lines = lines_behind run k n in
+    let lines = lines_after run k n in
     let last = take said.0 (tick_line_of run (suc (k + n))) in
     (lines ++ last, said.2 ∙ append_assoc old lines last)
 
@@ -279,7 +274,7 @@ go_grows old new (inr run) leads = elim (leads.goes refl run.0 run.1 run.2.run) 
 ]
 
 go_extends : (target : ℕ) (job : Job) (old new : Image) → MayAdd job (target ∷ []) → TakesTicks job
-    → ((number : ℕ) → IsLeftAlone job number → IsApart number) → IsSoundImage old → GoLeads true target old new
+    → ((number : ℕ) → IsLeftAlone job number → IsOutsideRun number) → IsSoundImage old → GoLeads true target old new
     → Extends job old new
 go_extends target job old new asked takes apart sound leads = record {
   goes = λ h is represents. elim (leads.goes refl h is represents) [
@@ -345,7 +340,7 @@ make_extends seed count old new make = record {
 -- ---- `demo`
 
 -- the run of what was made, where it is started
-demo_begun : (seed count target : ℕ) (old made between new : Image) → CanDemo old.file target → IsMadeFrom seed count old made
+demo_begun : (seed count target : ℕ) (old made between new : Image) → IsDemoReady old.file target → IsMadeFrom seed count old made
     → StartLeads true made between → new.file ≡ between.file → IsFresh (new.file journal_file) ⊎ StartsDemo seed count target old new
 demo_begun seed count target old made between new can makes leads files =
     let fresh = fresh_made can makes in
@@ -371,7 +366,7 @@ demo_begun seed count target old made between new can makes leads files =
     ]
 
 -- and where it is led
-demo_led : (seed count target : ℕ) (old middle between new : Image) → CanDemo old.file target
+demo_led : (seed count target : ℕ) (old middle between new : Image) → IsDemoReady old.file target
     → IsStartedOn true seed count target old middle → GoLeads true target middle between → new.file ≡ between.file
     → StartsDemo seed count target old new
 demo_led seed count target old middle between new can begun leads files =
@@ -480,12 +475,12 @@ touches_extends words job old new is sound (inr some) =
 -- Each image behind the first sync extends what read at entry.
 each_extends : {H : Type 0} (m : HostModel H) (words : List (List ℕ)) (job : Job) (old synced new : H) → IsJob words job
     → IsSoundImage (m.contents old) → Leads m Stays old synced → IsDurable m synced
-    → Leads m (RunTouches m.crashes.is_honest words (m.contents old).file) synced new
+    → Leads m (CallTouches m.crashes.is_honest words (m.contents old).file) synced new
     → EachImage m (Extends job (m.contents old)) synced new
 each_extends m words job old synced new is sound before durable since = record {
   follows = λ honest. (weaken behind.images (λ start image extends. extends honest)).follows honest;
 } where
-  touched : (image : Image) → RunTouches m.crashes.is_honest words (m.contents old).file (m.contents synced) image
+  touched : (image : Image) → CallTouches m.crashes.is_honest words (m.contents old).file (m.contents synced) image
       → IsTrue m.crashes.is_honest → Extends job (m.contents old) image
   touched image step honest =
       let yes : m.crashes.is_honest ≡ true = honest in
@@ -495,7 +490,7 @@ each_extends m words job old synced new is sound before durable since = record {
 
   behind : Leads m (λ start image. IsTrue m.crashes.is_honest → Extends job (m.contents old) image) synced new
   behind =
-      leads_from_durable (RunTouches m.crashes.is_honest words (m.contents old).file)
+      leads_from_durable (CallTouches m.crashes.is_honest words (m.contents old).file)
       (λ start image. IsTrue m.crashes.is_honest → Extends job (m.contents old) image) durable since
       (λ tells image step. touched image step)
 

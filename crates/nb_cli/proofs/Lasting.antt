@@ -1,4 +1,4 @@
--- What lasts of a run through sessions.
+-- What lasts of a run through invocations.
 use Rattle.std.proofs.Common.{◌≡◌, ◌⊎◌, inl, inr, ◌∙◌, refl, sym, ap, subst, ℕ, ◌≤◌, List, [], ◌∷◌, ◌++◌, length, arith, append-nil, append_assoc}
 use Rattle.nb_host.specs.declared.host.Channel.TheVariants as channels
 use Rattle.nb_host.specs.Image.{Image}
@@ -9,14 +9,14 @@ use Rattle.nb_journal.specs.Form.{Log, IsFresh}
 use Rattle.nb_journal.specs.Offsets.{journal_file}
 use Rattle.nb_journal.proofs.Callers.{fresh_alone, one_journal}
 use Rattle.nb_engine.specs.Acknowledged.{Acknowledges}
-use Rattle.nb_engine.specs.Histories.{legs_in, length_of, History, run_of, ticks_of, IsHistory}
+use Rattle.nb_engine.specs.Histories.{legs_in, run_length, History, run_of, ticks_of, IsHistory}
 use Rattle.nb_engine.specs.Represents.{snap_of, IsSnapshotOf, RepresentsRun, RepresentsHistory, IsSoundImage}
 use Rattle.nb_engine.specs.Start.{Start, started}
 use Rattle.nb_engine.proofs.Callers.{ticks-within}
 use Rattle.nb_cli.specs.declared.words.Job.{Job}
 use Rattle.nb_cli.specs.declared.words.Job.TheVariants as job
 use Rattle.nb_cli.specs.Make.{made_start}
-use Rattle.nb_cli.specs.Worlds.{IsLater, KeepsSnapshots, MayAdd, MayStart, Session, AreSessions, left_by, asked_by, asked_for, IsAmong, IsNew, IsStartOf, WasStarted, Lasts}
+use Rattle.nb_cli.specs.Worlds.{IsLater, KeepsSnapshots, MayAdd, MayStart, Invocation, AreInvocations, image_after, asked_by, asked_for, IsAmong, IsNew, IsStartOf, WasStarted, Lasts}
 
 -- ---- one image, one run
 
@@ -39,7 +39,7 @@ run_of_sound image h (inr run) represents =
 
 -- ---- what is known of the run of one image
 
-pub ticks_within_run : (image : Image) (h : History) → RepresentsRun h image → ticks_of h ≤ length_of (run_of h)
+pub ticks_within_run : (image : Image) (h : History) → RepresentsRun h image → ticks_of h ≤ run_length (run_of h)
 ticks_within_run image h represents = ticks-within h represents.journal.journal.lawful
 
 pub finished_is_right : (image : Image) (h : History) (j : ℕ) → RepresentsRun h image → 1 ≤ j → j ≤ ticks_of h
@@ -71,8 +71,8 @@ kept_then {h = h} a b c later first second j within finished =
     (subst (λ (xs : List Body). IsFinishedSnapshot (length xs) (b.file (snap_of j))) (sym later.bodies) still)
     ∙ same
 
-lasts_on : (first : Image) (sessions : List Session) (h : History) → IsSoundImage first → AreSessions first sessions
-    → RepresentsRun h first → Lasts h first (left_by first sessions)
+lasts_on : (first : Image) (invocations : List Invocation) (h : History) → IsSoundImage first → AreInvocations first invocations
+    → RepresentsRun h first → Lasts h first (image_after first invocations)
 lasts_on first [] h sound are represents =
     let is = run_of_sound first h sound represents in
     record {
@@ -83,52 +83,52 @@ lasts_on first [] h sound are represents =
       is_later = later_same h;
       kept = λ j within finished. refl;
     }
-lasts_on first (session ∷ sessions) h sound are represents =
+lasts_on first (invocation ∷ invocations) h sound are represents =
     let goes = are.1.goes h (run_of_sound first h sound represents).0 represents in
-    let rest = lasts_on session.left sessions goes.later are.0 are.2 goes.represents in
+    let rest = lasts_on invocation.after invocations goes.later are.0 are.2 goes.represents in
     record {
       legs = goes.legs ++ rest.legs;
       later = rest.later;
       is = rest.is;
       represents = rest.represents;
       is_later = later_then goes.is_later rest.is_later;
-      kept = kept_then first session.left (left_by session.left sessions) goes.is_later goes.kept rest.kept;
+      kept = kept_then first invocation.after (image_after invocation.after invocations) goes.is_later goes.kept rest.kept;
     }
 
 -- ---- soundness, and what was told
 
-sound_on : (first : Image) (sessions : List Session) → IsSoundImage first → AreSessions first sessions → IsSoundImage (left_by first sessions)
+sound_on : (first : Image) (invocations : List Invocation) → IsSoundImage first → AreInvocations first invocations → IsSoundImage (image_after first invocations)
 sound_on first [] sound are = sound
-sound_on first (session ∷ sessions) sound are = sound_on session.left sessions are.0 are.2
+sound_on first (invocation ∷ invocations) sound are = sound_on invocation.after invocations are.0 are.2
 
-pub stay_sound : (first : Image) (sessions : List Session) → IsNew first → AreSessions first sessions → IsSoundImage (left_by first sessions)
-stay_sound first sessions new are = sound_on first sessions (inl (new.fresh, new.untold)) are
+pub stay_sound : (first : Image) (invocations : List Invocation) → IsNew first → AreInvocations first invocations → IsSoundImage (image_after first invocations)
+stay_sound first invocations new are = sound_on first invocations (inl (new.fresh, new.untold)) are
 
 pub told_is_done : (image : Image) (k : ℕ) → IsSoundImage image → Acknowledges (image.said channels.Out) k → 1 ≤ k
     → (h : History) × IsHistory h × RepresentsHistory h image × (k ≤ ticks_of h)
 told_is_done image k (inl none) told some = let few = none.1 k told in absurd (omega (arith, few, some))
-told_is_done image k (inr run) told some = (run.0, run.1, run.2, run.2.told k told)
+told_is_done image k (inr run) told some = (run.0, run.1, run.2, run.2.acknowledged k told)
 
 -- ---- a list in two parts
 
-left_by-append : (first : Image) (before behind : List Session) → left_by first (before ++ behind) ≡ left_by (left_by first before) behind
-left_by-append first [] behind = refl
-left_by-append first (session ∷ before) behind = left_by-append session.left before behind
+image_after-append : (first : Image) (before behind : List Invocation) → image_after first (before ++ behind) ≡ image_after (image_after first before) behind
+image_after-append first [] behind = refl
+image_after-append first (invocation ∷ before) behind = image_after-append invocation.after before behind
 
-those_before : (first : Image) (before behind : List Session) → AreSessions first (before ++ behind) → AreSessions first before
+those_before : (first : Image) (before behind : List Invocation) → AreInvocations first (before ++ behind) → AreInvocations first before
 those_before first [] behind are = tt
-those_before first (session ∷ before) behind are = (are.0, are.1, those_before session.left before behind are.2)
+those_before first (invocation ∷ before) behind are = (are.0, are.1, those_before invocation.after before behind are.2)
 
-those_behind : (first : Image) (before behind : List Session) → AreSessions first (before ++ behind)
-    → AreSessions (left_by first before) behind
+those_behind : (first : Image) (before behind : List Invocation) → AreInvocations first (before ++ behind)
+    → AreInvocations (image_after first before) behind
 those_behind first [] behind are = are
-those_behind first (session ∷ before) behind are = those_behind session.left before behind are.2
+those_behind first (invocation ∷ before) behind are = those_behind invocation.after before behind are.2
 
-pub lasts : (first : Image) (before behind : List Session) (h : History) → IsNew first → AreSessions first (before ++ behind)
-    → RepresentsRun h (left_by first before) → Lasts h (left_by first before) (left_by first (before ++ behind))
+pub lasts : (first : Image) (before behind : List Invocation) (h : History) → IsNew first → AreInvocations first (before ++ behind)
+    → RepresentsRun h (image_after first before) → Lasts h (image_after first before) (image_after first (before ++ behind))
 lasts first before behind h new are represents =
-    subst (λ (i : Image). Lasts h (left_by first before) i) (sym (left_by-append first before behind))
-    (lasts_on (left_by first before) behind h (stay_sound first before new (those_before first before behind are))
+    subst (λ (i : Image). Lasts h (image_after first before) i) (sym (image_after-append first before behind))
+    (lasts_on (image_after first before) behind h (stay_sound first before new (those_before first before behind are))
     (those_behind first before behind are) represents)
 
 -- ---- legs that were asked for
@@ -163,26 +163,26 @@ pub record AreAsked (before legs asked : List ℕ) : Type 0 where
   pub legs_are : legs ≡ before ++ more
   pub among : IsAmong more asked
 
-asked_on : (first : Image) (sessions : List Session) (g h : History) → IsSoundImage first → AreSessions first sessions
-    → RepresentsRun g first → RepresentsRun h (left_by first sessions)
-    → AreAsked (legs_in g.log.entries) (legs_in h.log.entries) (asked_for sessions)
+asked_on : (first : Image) (invocations : List Invocation) (g h : History) → IsSoundImage first → AreInvocations first invocations
+    → RepresentsRun g first → RepresentsRun h (image_after first invocations)
+    → AreAsked (legs_in g.log.entries) (legs_in h.log.entries) (asked_for invocations)
 asked_on first [] g h sound are before behind = record {
   more = [];
   legs_are = ap (λ (x : History). legs_in x.log.entries) (one_history first h g behind before) ∙ sym (append-nil (legs_in g.log.entries));
   among = tt;
 }
-asked_on first (session ∷ sessions) g h sound are before behind =
+asked_on first (invocation ∷ invocations) g h sound are before behind =
     let goes = are.1.goes g (run_of_sound first g sound before).0 before in
-    let rest = asked_on session.left sessions goes.later h are.0 are.2 goes.represents behind in
+    let rest = asked_on invocation.after invocations goes.later h are.0 are.2 goes.represents behind in
     record {
       more = goes.legs ++ rest.more;
       legs_are = rest.legs_are ∙ ap (λ (l : List ℕ). l ++ rest.more) goes.is_later.legs
           ∙ append_assoc (legs_in g.log.entries) goes.legs rest.more;
-      among = among_join goes.legs rest.more (asked_by session.job) (asked_for sessions)
-          (added_asked session.job goes.legs goes.asked) rest.among;
+      among = among_join goes.legs rest.more (asked_by invocation.job) (asked_for invocations)
+          (added_asked invocation.job goes.legs goes.asked) rest.among;
     }
 
--- a run that a session started, and of what
+-- a run that a invocation started, and of what
 pub record IsBegunBy (job : Job) (old new : Image) : Type 0 where
   pub start : Start
   pub is : IsStartOf job old.file start
@@ -217,32 +217,32 @@ begun_by (job.Demo seed count target pace) old new may = record {
   asked = subst (λ (l : List ℕ). IsAmong l (target ∷ [])) (sym may.is_later.legs) (none_or_one may.legs target may.asked);
 }
 
-pub all_asked : (first : Image) (sessions : List Session) (h : History) → IsFresh (first.file journal_file) → AreSessions first sessions
-    → RepresentsRun h (left_by first sessions) → IsAmong (legs_in h.log.entries) (asked_for sessions)
+pub all_asked : (first : Image) (invocations : List Invocation) (h : History) → IsFresh (first.file journal_file) → AreInvocations first invocations
+    → RepresentsRun h (image_after first invocations) → IsAmong (legs_in h.log.entries) (asked_for invocations)
 all_asked first [] h fresh are behind = absurd (no_run h first fresh behind)
-all_asked first (session ∷ sessions) h fresh are behind = elim (are.1.starts fresh) [
-  | inl still ↦ among_more (legs_in h.log.entries) (asked_by session.job) (asked_for sessions)
-      (all_asked session.left sessions h still are.2 behind)
+all_asked first (invocation ∷ invocations) h fresh are behind = elim (are.1.starts fresh) [
+  | inl still ↦ among_more (legs_in h.log.entries) (asked_by invocation.job) (asked_for invocations)
+      (all_asked invocation.after invocations h still are.2 behind)
   | inr may ↦
-      let begun = begun_by session.job first session.left may in
-      let rest = asked_on session.left sessions begun.run h are.0 are.2 begun.represents behind in
-      subst (λ (l : List ℕ). IsAmong l (asked_by session.job ++ asked_for sessions)) (sym rest.legs_are)
-      (among_join (legs_in begun.run.log.entries) rest.more (asked_by session.job) (asked_for sessions) begun.asked rest.among)
+      let begun = begun_by invocation.job first invocation.after may in
+      let rest = asked_on invocation.after invocations begun.run h are.0 are.2 begun.represents behind in
+      subst (λ (l : List ℕ). IsAmong l (asked_by invocation.job ++ asked_for invocations)) (sym rest.legs_are)
+      (among_join (legs_in begun.run.log.entries) rest.more (asked_by invocation.job) (asked_for invocations) begun.asked rest.among)
 ]
 
--- ---- which session started the run
+-- ---- which invocation started the run
 
-pub was_started : (first : Image) (sessions : List Session) (h : History) → IsFresh (first.file journal_file) → AreSessions first sessions
-    → RepresentsRun h (left_by first sessions) → WasStarted first sessions h
+pub was_started : (first : Image) (invocations : List Invocation) (h : History) → IsFresh (first.file journal_file) → AreInvocations first invocations
+    → RepresentsRun h (image_after first invocations) → WasStarted first invocations h
 was_started first [] h fresh are behind = absurd (no_run h first fresh behind)
-was_started first (session ∷ sessions) h fresh are behind = elim (are.1.starts fresh) [
+was_started first (invocation ∷ invocations) h fresh are behind = elim (are.1.starts fresh) [
   | inl still ↦
-      let was = was_started session.left sessions h still are.2 behind in
+      let was = was_started invocation.after invocations h still are.2 behind in
       record {
-        before = session ∷ was.before;
-        session = was.session;
+        before = invocation ∷ was.before;
+        invocation = was.invocation;
         behind = was.behind;
-        are = ap (λ (l : List Session). session ∷ l) was.are;
+        are = ap (λ (l : List Invocation). invocation ∷ l) was.are;
         fresh = was.fresh;
         start = was.start;
         is = was.is;
@@ -251,14 +251,14 @@ was_started first (session ∷ sessions) h fresh are behind = elim (are.1.starts
         begin = was.begin;
       }
   | inr may ↦
-      let begun = begun_by session.job first session.left may in
-      let rest = lasts_on session.left sessions begun.run are.0 are.2 begun.represents in
-      let same = one_history (left_by session.left sessions) h rest.later behind rest.represents.run in
+      let begun = begun_by invocation.job first invocation.after may in
+      let rest = lasts_on invocation.after invocations begun.run are.0 are.2 begun.represents in
+      let same = one_history (image_after invocation.after invocations) h rest.later behind rest.represents.run in
       let later = later_then begun.is_later rest.is_later in
       record {
         before = [];
-        session = session;
-        behind = sessions;
+        invocation = invocation;
+        behind = invocations;
         are = refl;
         fresh = fresh;
         start = begun.start;

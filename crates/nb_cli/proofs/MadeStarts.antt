@@ -4,8 +4,7 @@ use Rattle.std.proofs.lemmas.Bool.{cond-false, lt-leb}
 use Rattle.std.proofs.lemmas.List.{length_push}
 use Rattle.std.proofs.lemmas.List.Sums.{sum_by_push}
 use Rattle.std.proofs.Math.Nat.{mul-le-mul_left, div-mul-le_self, div-le_self}
-use Rattle.nb_model.specs.declared.body.Body.{Body}
-use Rattle.nb_model.specs.Limits.{most_bodies, gm_limit}
+use Rattle.nb_model.specs.Limits.{gm_limit}
 use Rattle.nb_model.specs.Octree.{total_mass}
 use Rattle.nb_model.specs.Valid.{AreInRange}
 use Rattle.nb_format.specs.ParamsText.{params_of}
@@ -14,12 +13,11 @@ use Rattle.nb_journal.specs.Form.{IsFresh}
 use Rattle.nb_journal.specs.Offsets.{journal_file}
 use Rattle.nb_engine.specs.declared.refusal.Refusal.{Refusal}
 use Rattle.nb_engine.specs.declared.refusal.Refusal.TheVariants as refusal
-use Rattle.nb_engine.specs.Files.{params_file, init_file}
 use Rattle.nb_engine.specs.Refusal.{NeedsNoCause}
 use Rattle.nb_engine.specs.Start.{Start, HasStart, start_refusal, IsStartReady, IsStartRefused, IsOfParameters, IsOfStart}
 use Rattle.nb_cli.specs.declared.words.Job.TheVariants as job
 use Rattle.nb_cli.specs.Make.{body_at, made_bodies, made_params, made_start, HasMade}
-use Rattle.nb_cli.specs.Demo.{IsOfDemo, start_behind_make, go_behind_start}
+use Rattle.nb_cli.specs.Demo.{IsOfDemo, start_after_make, go_after_start}
 use Rattle.nb_cli.proofs.Causes.{one_start, not_refused_job}
 
 pub length-made : (seed n : ℕ) → length (made_bodies seed n) ≡ n
@@ -82,7 +80,7 @@ made_only {files = files} seed count made ready = one_start ready.starts (made_h
 
 -- ---- refusals of the sessions behind it
 
-pub start_device : (why : Refusal) → start_behind_make why ≡ refusal.Device → why ≡ refusal.Device
+pub start_device : (why : Refusal) → start_after_make why ≡ refusal.Device → why ≡ refusal.Device
 start_device (refusal.Params error) same = absurd (cc)
 start_device (refusal.Snapshot error) same = absurd (cc)
 start_device (refusal.TooHeavy grav mass) same = absurd (cc)
@@ -96,7 +94,7 @@ start_device refusal.Device same = refl
 start_device (refusal.Damaged page) same = absurd (cc)
 start_device refusal.NoMemory same = absurd (cc)
 
-pub go_device : (why : Refusal) → go_behind_start why ≡ refusal.Device → why ≡ refusal.Device
+pub go_device : (why : Refusal) → go_after_start why ≡ refusal.Device → why ≡ refusal.Device
 go_device (refusal.Params error) same = absurd (cc)
 go_device (refusal.Snapshot error) same = absurd (cc)
 go_device (refusal.TooHeavy grav mass) same = absurd (cc)
@@ -110,22 +108,22 @@ go_device refusal.Device same = refl
 go_device (refusal.Damaged page) same = absurd (cc)
 go_device refusal.NoMemory same = absurd (cc)
 
-pub start_needless : (why : Refusal) → NeedsNoCause why → NeedsNoCause (start_behind_make why)
-start_needless why (inl device) = inl (ap start_behind_make device)
-start_needless why (inr memory) = inr (ap start_behind_make memory)
+pub start_needless : (why : Refusal) → NeedsNoCause why → NeedsNoCause (start_after_make why)
+start_needless why (inl device) = inl (ap start_after_make device)
+start_needless why (inr memory) = inr (ap start_after_make memory)
 
-pub go_needless : (why : Refusal) → NeedsNoCause why → NeedsNoCause (go_behind_start why)
-go_needless why (inl device) = inl (ap go_behind_start device)
-go_needless why (inr memory) = inr (ap go_behind_start memory)
+pub go_needless : (why : Refusal) → NeedsNoCause why → NeedsNoCause (go_after_start why)
+go_needless why (inl device) = inl (ap go_after_start device)
+go_needless why (inr memory) = inr (ap go_after_start memory)
 
 -- `start` isn't refused by what was made
 pub made_starts : (seed count : ℕ) (files : ℕ → List ℕ) (why : Refusal) → HasMade seed count files → IsFresh (files journal_file)
-    → NeedsNoCause why ⊎ IsStartRefused files why → NeedsNoCause (start_behind_make why)
+    → NeedsNoCause why ⊎ IsStartRefused files why → NeedsNoCause (start_after_make why)
 made_starts seed count files why made fresh (inl needless) = start_needless why needless
 made_starts seed count files why made fresh (inr refused) =
     absurd (not_refused_job files (job.Start 4) why (made_start seed count, made_ready seed count files made fresh) refused)
 
-pub start_of_demo : (why : Refusal) → IsOfStart why → IsOfDemo (start_behind_make why)
+pub start_of_demo : (why : Refusal) → IsOfStart why → IsOfDemo (start_after_make why)
 start_of_demo (refusal.Params error) of_start = tt
 start_of_demo (refusal.Snapshot error) of_start = tt
 start_of_demo (refusal.TooHeavy grav mass) of_start = tt
@@ -135,7 +133,7 @@ start_of_demo (refusal.Damaged page) of_start = tt
 start_of_demo refusal.NoMemory of_start = tt
 start_of_demo _ of_start = absurd of_start
 
-pub parameters_of_demo : (why : Refusal) → IsOfParameters why → IsOfDemo (start_behind_make why)
+pub parameters_of_demo : (why : Refusal) → IsOfParameters why → IsOfDemo (start_after_make why)
 parameters_of_demo (refusal.Params error) of_parameters = tt
 parameters_of_demo refusal.Device of_parameters = tt
 parameters_of_demo refusal.NoMemory of_parameters = tt

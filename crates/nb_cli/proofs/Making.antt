@@ -11,12 +11,12 @@ use Rattle.nb_format.specs.declared.snap_writer.Filling.{Filling}
 use Rattle.nb_format.specs.Images.{IsWritten, IsBeingWritten, ChangesWith}
 use Rattle.nb_format.specs.ParamsText.{text_without_edge}
 use Rattle.nb_format.specs.Snapshot.{IsUnfinished}
-use Rattle.nb_format.specs.Writer.{Plan, plan_of, StaysUnfinished, Closes, IsFinishedAs}
+use Rattle.nb_format.specs.Writer.{SnapshotPlan, plan_of, StaysUnfinished, Closes, IsFinishedAs}
 use Rattle.nb_format.proofs.Callers.{close_leads, changes_becomes}
 use Rattle.nb_engine.specs.Files.{params_file, init_file}
 use Rattle.nb_engine.proofs.Callers.{leads_from_durable}
-use Rattle.nb_cli.specs.Done.{BecomesAny}
-use Rattle.nb_cli.specs.Make.{body_at, made_bodies, made_params, CanMake, IsMadeFrom, IsPartlyMade, MakeLeads}
+use Rattle.nb_cli.specs.OnceAnswer.{BecomesAny}
+use Rattle.nb_cli.specs.Make.{body_at, made_bodies, made_params, IsMakeReady, IsMadeFrom, IsPartlyMade, MakeLeads}
 
 -- ---- the lines
 
@@ -65,7 +65,7 @@ params_then first second =
 -- ---- the bodies
 
 -- the snapshot of so many
-abbrev pub made_plan : ℕ → Plan
+abbrev pub made_plan : ℕ → SnapshotPlan
 made_plan count = record { file = init_file; count = count; time = 0 }
 
 pub length-made : (seed n : ℕ) → length (made_bodies seed n) ≡ n
@@ -98,7 +98,7 @@ pub finished_since : {H : Type 0} {m : HostModel H} (seed added count : ℕ) {fi
     → FileBecomes (plan_of filling).file (IsFinishedAs (made_bodies seed added) (plan_of filling).time) (m.contents old) (m.contents new)
     → FileBecomes init_file (IsFinishedAs (made_bodies seed count) 0) (m.contents start) (m.contents new)
 finished_since {m = m} seed added count {start = start} {old = old} {new = new} all being tells wrote =
-    let P : Plan → Type 0 = λ p. FileBecomes p.file (IsFinishedAs (made_bodies seed added) p.time) (m.contents old) (m.contents new) in
+    let P : SnapshotPlan → Type 0 = λ p. FileBecomes p.file (IsFinishedAs (made_bodies seed added) p.time) (m.contents old) (m.contents new) in
     let R : ℕ → Type 0 = λ n. FileBecomes init_file (IsFinishedAs (made_bodies seed n) 0) (m.contents start) (m.contents new) in
     subst R all
     (becomes_then (changes_becomes (being.since.contents tells)) (subst P being.planned wrote) (λ before between after _ is. is))
@@ -129,7 +129,7 @@ both_others first second = record {
 }
 
 -- the parameters may be in part
-params_partly : {seed count : ℕ} {old now : Image} → CanMake old.file → FileBecomes params_file BecomesAny old now
+params_partly : {seed count : ℕ} {old now : Image} → IsMakeReady old.file → FileBecomes params_file BecomesAny old now
     → IsPartlyMade seed count old now
 params_partly can step = record {
   can = can;
@@ -139,7 +139,7 @@ params_partly can step = record {
 }
 
 -- behind them the snapshot is unfinished, or both are whole
-bodies_partly : {seed count : ℕ} {old middle now : Image} → CanMake old.file → FileBecomes params_file BecomesAny old middle
+bodies_partly : {seed count : ℕ} {old middle now : Image} → IsMakeReady old.file → FileBecomes params_file BecomesAny old middle
     → middle.file params_file ≡ text_without_edge (made_params count)
     → FileBecomes init_file (IsWritten (made_bodies seed count) 0) middle now → IsPartlyMade seed count old now
 bodies_partly can first text second = record {
@@ -152,7 +152,7 @@ bodies_partly can first text second = record {
   others = both_others first second;
 }
 
-bodies_whole : {seed count : ℕ} {old middle now : Image} → CanMake old.file → FileBecomes params_file BecomesAny old middle
+bodies_whole : {seed count : ℕ} {old middle now : Image} → IsMakeReady old.file → FileBecomes params_file BecomesAny old middle
     → middle.file params_file ≡ text_without_edge (made_params count)
     → FileBecomes init_file (IsFinishedAs (made_bodies seed count) 0) middle now → IsMadeFrom seed count old now
 bodies_whole can first text second = record {
@@ -163,18 +163,14 @@ bodies_whole can first text second = record {
 
 -- ---- what `make` leaves at each moment
 
-pub leads_unmade : {H : Type 0} {m : HostModel H} (seed count : ℕ) {old new : H} → Leads m Stays old new
-    → Leads m (MakeLeads seed count) old new
-leads_unmade seed count stays = leads_more stays (λ start image same. inl same)
-
 -- The parameters were written into an empty file, perhaps in part.
 pub record HasBegun {H : Type 0} (m : HostModel H) (old now : H) : Type 0 where
   pub durable : IsDurable m old
-  pub can : IsTrue m.tells → CanMake (m.contents old).file
+  pub can : IsTrue m.tells → IsMakeReady (m.contents old).file
   pub leads : Leads m (FileBecomes params_file BecomesAny) old now
 
 pub begun_by : {H : Type 0} {m : HostModel H} {old middle new : H} → IsDurable m old → Leads m Stays old middle
-    → (IsTrue m.tells → CanMake (m.contents old).file) → Leads m (FileBecomes params_file BecomesAny) middle new
+    → (IsTrue m.tells → IsMakeReady (m.contents old).file) → Leads m (FileBecomes params_file BecomesAny) middle new
     → HasBegun m old new
 begun_by durable stays can wrote = record {
   durable = durable;
@@ -194,7 +190,7 @@ leads_begun seed count begun =
 
 -- The file of the parameters reads as it was written, also behind a sync.
 pub text_read : {H : Type 0} {m : HostModel H} (text : List ℕ) {old first second middle : H} → Leads m Stays old first
-    → (IsTrue m.tells → CanMake (m.contents old).file)
+    → (IsTrue m.tells → IsMakeReady (m.contents old).file)
     → (IsTrue m.tells → (m.contents first).file params_file ≡ [] → (m.contents second).file params_file ≡ text)
     → Leads m Stays second middle → IsTrue m.tells → (m.contents middle).file params_file ≡ text
 text_read text stays can wrote synced tells =

@@ -14,7 +14,7 @@ use Rattle.clap.specs.declared.error.kind.ErrorKind.{ErrorKind}
 use Rattle.clap.specs.declared.parser.matches.Found.{Found}
 use Rattle.clap.proofs.WalkLemmas.{find-map}
 use Rattle.nb_cli.specs.Splitting.{numbers_in}
-use Rattle.nb_cli.specs.Words.{Setting, of_pages, of_walks, numbers_behind}
+use Rattle.nb_cli.specs.Words.{OptionName, of_pages, of_walks, numbers_behind}
 use Rattle.nb_cli.proofs.Splits.{split_app, arguments_rule, option_rule, rules, shape, name_of, rest_fault, values_at, lists, all_numbers, numbers_of, Refuses, Gives, first, nothing, splits}
 
 or_else-none : (k : Kinds) → or_else k [] ≡ k
@@ -112,7 +112,7 @@ given_at f id o is = given_text o ∙ ap (λ (t : Option (List Text)). option_ma
 abbrev pub arguments_in : Found → List Text
 arguments_in f = values_at (codes "arguments") (rows_of f)
 
-abbrev pub values_in : Setting → Found → List Text
+abbrev pub values_in : OptionName → Found → List Text
 values_in s f = values_at (name_of s) (rows_of f)
 
 pub all_spelled : (f : Found) (a p w : List ℕ) → numbers_in (arguments_in f) ≡ Some a → numbers_in (values_in of_pages f) ≡ Some p

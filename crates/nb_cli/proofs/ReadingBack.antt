@@ -20,7 +20,7 @@ use Rattle.nb_host.proofs.Callers.{stays_contents, stays_both, stopped_after}
 use Rattle.nb_format.specs.declared.snap_error.SnapError.{SnapError}
 use Rattle.nb_format.specs.declared.snap_error.SnapError.TheVariants as snap
 use Rattle.nb_format.specs.declared.snap_reader.SnapReader.{SnapReader}
-use Rattle.nb_format.specs.Reader.{file_of, count_of, time_of, read_count, IsAtStart, MayFollow, IsBehind, HasRead, IsOpenNow}
+use Rattle.nb_format.specs.Reader.{file_of, count_of, time_of, read_count, IsAtStart, MayFollow, IsBehind, HasRead, IsReadableNow}
 use Rattle.nb_format.specs.Snapshot.{header_bytes, snapshot_length, IsHeader, IsStoredBody, IsSnapshot}
 use Rattle.nb_format.specs.SnapshotRefusal.{snapshot_refusal, IsBySnapshot}
 use Rattle.nb_format.proofs.Reading.{read_header, read_records}
@@ -41,7 +41,7 @@ pub unlike : {H : Type 0} {m : HostModel H} (Written : Type 0) (file place : ℕ
     → IsUnlike m file Written (refusal.Damaged (record { file = file; page = place }))
 unlike Written file place never = record {
   page = record { file = file; page = place };
-  shown = refl;
+  named = refl;
   file_is = refl;
   cause = never;
 }
@@ -50,7 +50,7 @@ pub unlike_more : {H : Type 0} {m : HostModel H} {file : ℕ} (Few More : Type 0
     → (IsTrue m.tells → More → Few) → IsUnlike m file More why
 unlike_more Few More unlike more = record {
   page = unlike.page;
-  shown = unlike.shown;
+  named = unlike.named;
   file_is = unlike.file_is;
   cause = λ tells written. unlike.cause tells (more tells written);
 }
@@ -175,7 +175,7 @@ module _ {H : Type 0} {m : HostModel H} {file : ℕ} {start : SnapReader} {old :
   reads_still kept = file-same (stays_contents kept.stays) (kept.given.file ∙ kept.begun)
 
   pub open_still : {reader : SnapReader} {host : H} {bodies : List Body} → HasReadBack m file start old reader host bodies
-      → IsOpenNow m reader ((m.contents old).file file) host
+      → IsReadableNow m reader ((m.contents old).file file) host
   open_still kept = record {
     reads = λ told. IsFrontOf-same _ (sym (reads_still kept));
     images = λ image honest is. tt;

@@ -8,12 +8,12 @@ use Rattle.nb_host.specs.declared.host.HostError.{HostError}
 use Rattle.nb_host.specs.declared.host.HostError.TheVariants.{Fault, NoMemory}
 use Rattle.nb_host.specs.Crashes.{Stays}
 use Rattle.nb_host.specs.Image.{Image, FileBecomes, SaysPart}
-use Rattle.nb_host.specs.Meaning.{HostModel, Leads, Spoke, RanSyncing, IsDurable, Tally}
+use Rattle.nb_host.specs.Meaning.{HostModel, Leads, RanSaying, RanSyncing, IsDurable, CallTally}
 use Rattle.nb_host.proofs.Callers.{goes_on, leads_more, leads_before, stays_contents, stopped_after, ok_is_no_error}
 use Rattle.nb_format.specs.Lines.{once_line}
 use Rattle.nb_format.specs.Snapshot.{IsSnapshot}
 use Rattle.nb_format.specs.Writer.{IsFinishedAs}
-use Rattle.nb_cli.specs.declared.once_command.Done.{Done}
+use Rattle.nb_engine.specs.declared.going.Done.{Done}
 use Rattle.nb_engine.specs.declared.refusal.Refusal.{Refusal}
 use Rattle.nb_engine.specs.declared.refusal.Refusal.TheVariants as refusal
 use Rattle.nb_engine.specs.declared.shown.Shown.{Shown}
@@ -25,10 +25,10 @@ use Rattle.nb_cli.specs.declared.words.Job.{Job}
 use Rattle.nb_cli.specs.declared.words.Job.TheVariants as job
 use Rattle.nb_engine.specs.Start.{Start}
 use Rattle.nb_cli.specs.Once.{once_file, once_ticks, list_at, IsOnceReady}
-use Rattle.nb_cli.specs.Done.{TellsOnce, BecomesAny, OnceLeads}
+use Rattle.nb_cli.specs.OnceAnswer.{TellsOnce, BecomesAny, OnceLeads}
 use Rattle.nb_cli.specs.Show.{folder_text, show_text}
 use Rattle.nb_engine.specs.Steps.{SaidPrefixOf}
-use Rattle.nb_cli.specs.Answer.{IsOncePartlyDone, JobTouches, JobBegins, JobBeginsOrNot, exactly, CountsRun, SyncsRun}
+use Rattle.nb_cli.specs.Answer.{IsOncePartlyDone, JobTouches, JobBegins, JobBeginsOrNot, exactly, CountsJob, SyncsJob}
 
 pub Out≢Err : ◌≡◌ {A = Channel} channels.Err channels.Out → ⊥
 Out≢Err same = cc
@@ -175,12 +175,12 @@ said_answer (Err error) = Err (of_host error)
 
 -- a device fault or want of memory, behind so many syncs at most
 pub syncs_free : (syncs : ℕ) (why : Refusal) (before behind : ℕ) → NeedsNoCause why → behind ≤ before + syncs
-    → SyncsRun (exactly syncs) (Err why) before behind
-syncs_free syncs why before behind (inl is) few = subst (λ w. SyncsRun (exactly syncs) (Err w) before behind) (sym is) few
-syncs_free syncs why before behind (inr is) few = subst (λ w. SyncsRun (exactly syncs) (Err w) before behind) (sym is) few
+    → SyncsJob (exactly syncs) (Err why) before behind
+syncs_free syncs why before behind (inl is) few = subst (λ w. SyncsJob (exactly syncs) (Err w) before behind) (sym is) few
+syncs_free syncs why before behind (inr is) few = subst (λ w. SyncsJob (exactly syncs) (Err w) before behind) (sym is) few
 
 -- a refusal by a cause, behind one sync
-pub syncs_once : (more : ℕ) (why : Refusal) (before behind : ℕ) → behind ≡ before + 1 → SyncsRun (exactly (more + 1)) (Err why) before behind
+pub syncs_once : (more : ℕ) (why : Refusal) (before behind : ℕ) → behind ≡ before + 1 → SyncsJob (exactly (more + 1)) (Err why) before behind
 syncs_once more (refusal.Params _) before behind one = one
 syncs_once more (refusal.Snapshot _) before behind one = one
 syncs_once more (refusal.TooHeavy _ _) before behind one = one
@@ -241,7 +241,7 @@ free_or_not (refusal.Damaged p) = inr never where
 -- the first sync failed
 pub counts_unsynced : {H T : Type 0} {m : HostModel H} {by : Image → Image → Type 0} {old new : H}
     {result : Result T HostError} {error : HostError} (more : ℕ) → RanSyncing m 1 Fault by old new result → result ≡ Err error
-    → CountsRun m (exactly (more + 1)) old new (Err (of_host error))
+    → CountsJob m (exactly (more + 1)) old new (Err (of_host error))
 counts_unsynced {old = old} {new = new} {error = error} more ran is = record {
   count = ran.count;
   rose = λ err. ran.rose (is ∙ ap Err (by_device error err));
@@ -268,7 +268,7 @@ pub counts_refused : {H S T : Type 0} {m : HostModel H} {one two : Image → Ima
     {first : Result S HostError} {result : Result T Refusal} {why : Refusal} (more : ℕ) → IsOk first
     → RanSyncing m 1 Fault one old middle first → RanSyncing m more refusal.Device two middle new result
     → result ≡ Err why → ((NeedsNoCause why → ⊥) → m.tally new ≡ m.tally middle)
-    → CountsRun m (exactly (more + 1)) old new (Err why)
+    → CountsJob m (exactly (more + 1)) old new (Err why)
 counts_refused {m = m} {old = old} {middle = middle} {new = new} {why = why} more ok before after is unsynced =
     let same = before.spared (ok_is_no_error ok) in
     record {
@@ -280,7 +280,7 @@ counts_refused {m = m} {old = old} {middle = middle} {new = new} {why = why} mor
       syncs = λ told. elim (free_or_not why) [
         | inl free ↦ syncs_free (more + 1) why _ _ free (omega (arith, before.at_most told, after.at_most told))
         | inr cause ↦ syncs_once more why _ _
-            (ap (λ (t : Tally). t.syncs) (unsynced cause) ∙ before.synced told ok)
+            (ap (λ (t : CallTally). t.syncs) (unsynced cause) ∙ before.synced told ok)
       ];
     } where
       inside : {T : Type 0} {a b : Refusal} → ◌≡◌ {A = Result T Refusal} (Err a) (Err b) → a ≡ b
@@ -289,8 +289,8 @@ counts_refused {m = m} {old = old} {middle = middle} {new = new} {why = why} mor
 -- a line on Out behind all syncs
 pub counts_said : {H T E : Type 0} {m : HostModel H} {fault : E} {by : Image → Image → Type 0} {old middle new : H}
     {result : Result T E} {line : List ℕ} {answer : Result (Unit {0}) HostError} (syncs : ℕ)
-    → RanSyncing m syncs fault by old middle result → IsOk result → Spoke m channels.Out line middle new answer
-    → CountsRun m (exactly syncs) old new (said_answer answer)
+    → RanSyncing m syncs fault by old middle result → IsOk result → RanSaying m channels.Out line middle new answer
+    → CountsJob m (exactly syncs) old new (said_answer answer)
 counts_said {m = m} {new = new} {answer = answer} syncs ran ok spoke =
     let spared = ran.spared (ok_is_no_error ok) in
     record {
@@ -314,7 +314,7 @@ counts_said {m = m} {new = new} {answer = answer} syncs ran ok spoke =
       went (Err NoMemory) fine = absurd (search rules)
 
       counted : (answer : Result (Unit {0}) HostError) (before behind : ℕ) → behind ≡ before + syncs
-          → SyncsRun (exactly syncs) (said_answer answer) before behind
+          → SyncsJob (exactly syncs) (said_answer answer) before behind
       counted (Ok tt) before behind all = all
       counted (Err Fault) before behind all = omega (arith, all)
       counted (Err NoMemory) before behind all = omega (arith, all)

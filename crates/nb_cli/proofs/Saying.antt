@@ -7,7 +7,7 @@ use Rattle.nb_engine.specs.Refusal.{of_host}
 use Rattle.nb_cli.specs.declared.stop.Stop.{Stop}
 use Rattle.nb_cli.specs.declared.stop.Stop.TheVariants as stop
 use Rattle.nb_cli.specs.Stop.{status_of, stop_status}
-use Rattle.nb_cli.specs.Answer.{Yields, status_behind}
+use Rattle.nb_cli.specs.Answer.{Yields, status_after}
 
 -- what a failed say turns the status into
 yields_by : (error : HostError) → Yields (status_of (of_host error))
@@ -16,7 +16,7 @@ yields_by NoMemory = inr refl
 
 -- The status is that of the reason, or one of the two that each yields to.
 pub behind_answer : (why : Stop) (answer : Result (Unit {0}) HostError)
-    → (status_behind why answer ≡ stop_status why) ⊎ Yields (status_behind why answer)
+    → (status_after why answer ≡ stop_status why) ⊎ Yields (status_after why answer)
 behind_answer why (Ok tt) = inl refl
 behind_answer stop.Words (Err error) = inr (yields_by error)
 behind_answer (stop.Refused (refusal.Params _)) (Err error) = inr (yields_by error)
@@ -34,7 +34,7 @@ behind_answer (stop.Refused refusal.NoMemory) (Err error) = inl refl
 
 -- A device fault and want of memory stay what they are.
 pub behind_kept : (why : Stop) (answer : Result (Unit {0}) HostError) → Yields (stop_status why)
-    → status_behind why answer ≡ stop_status why
+    → status_after why answer ≡ stop_status why
 behind_kept why (Ok tt) yields = refl
 behind_kept (stop.Refused refusal.Device) (Err error) yields = refl
 behind_kept (stop.Refused refusal.NoMemory) (Err error) yields = refl

@@ -6,7 +6,7 @@ use Rattle.nb_host.specs.declared.host.Channel.TheVariants as channels
 use Rattle.nb_host.specs.declared.host.HostError.{HostError}
 use Rattle.nb_host.specs.declared.host.HostError.TheVariants.{Fault, NoMemory}
 use Rattle.nb_host.specs.Image.{Image, Says, SaysPart}
-use Rattle.nb_host.specs.Meaning.{HostModel, Leads, Tally, Spoke, RanSyncing, IsDurable}
+use Rattle.nb_host.specs.Meaning.{HostModel, Leads, CallTally, RanSaying, RanSyncing, IsDurable}
 use Rattle.nb_host.proofs.Callers.{goes_on, leads_more, stopped_after, ok_is_no_error}
 use Rattle.nb_engine.specs.declared.going.Pace.{Pace}
 use Rattle.nb_engine.specs.declared.refusal.Refusal.{Refusal}
@@ -14,8 +14,8 @@ use Rattle.nb_engine.specs.declared.refusal.Refusal.TheVariants as refusal
 use Rattle.nb_engine.specs.Frame.{RanSession}
 use Rattle.nb_engine.proofs.Callers.{leads_from_durable}
 use Rattle.nb_engine.specs.Refusal.{of_host, NeedsNoCause}
-use Rattle.nb_engine.specs.Sessions.{GoLeads, ResumeLeads, IsNoLeg, IsOfLeg, IsGoRefused, IsSlotSpoilt}
-use Rattle.nb_engine.specs.Shown.{IsNotShown}
+use Rattle.nb_engine.specs.Sessions.{GoLeads, ResumeLeads, IsNoLeg, IsOfLeg, IsGoRefused, IsSlotDamaged}
+use Rattle.nb_engine.specs.Shown.{IsShowRefused}
 use Rattle.nb_engine.specs.declared.run_start.Begun.{Begun}
 use Rattle.nb_engine.specs.Start.{Start, StartLeads, TellsStart}
 use Rattle.nb_format.specs.Lines.{started_line}
@@ -24,7 +24,7 @@ use Rattle.nb_journal.specs.Form.{Log, IsJournal, progress_of}
 use Rattle.nb_journal.specs.Offsets.{journal_file}
 use Rattle.nb_cli.specs.declared.words.Job.TheVariants as job
 use Rattle.nb_cli.specs.Telling.{IsStartDone, IsGoDone, IsResumeDone, IsDoneThenSaid, LeadsThenSays}
-use Rattle.nb_cli.specs.Answer.{JobTouches, Syncs, of_begin, of_run, SyncsRun, CountsRun}
+use Rattle.nb_cli.specs.Answer.{JobTouches, Syncs, of_begin, of_run, SyncsJob, CountsJob}
 use Rattle.nb_cli.proofs.Causes.{not_shown}
 use Rattle.nb_cli.proofs.Runs.{Out≢Err, said_answer, free_or_not}
 
@@ -173,7 +173,7 @@ SyncsBehind (refusal.Damaged page) before behind = page.file ≡ journal_file �
 SyncsBehind _ before behind = behind ≡ before
 
 pub syncs_behind : (why : Refusal) (before middle behind : ℕ) → middle ≡ before + 1 → SyncsBehind why middle behind
-    → SyncsRun of_run (Err why) before behind
+    → SyncsJob of_run (Err why) before behind
 syncs_behind (refusal.Params _) before middle behind one same = same ∙ one
 syncs_behind (refusal.Snapshot _) before middle behind one same = same ∙ one
 syncs_behind (refusal.TooHeavy _ _) before middle behind one same = same ∙ one
@@ -188,7 +188,7 @@ syncs_behind (refusal.Damaged _) before middle behind one same = λ journal. sam
 syncs_behind refusal.NoMemory before middle behind one free = tt
 
 -- `start` and `demo` sync before no refusal by a cause
-syncs_begin : (why : Refusal) (before behind : ℕ) → behind ≡ before + 1 → SyncsRun of_begin (Err why) before behind
+syncs_begin : (why : Refusal) (before behind : ℕ) → behind ≡ before + 1 → SyncsJob of_begin (Err why) before behind
 syncs_begin (refusal.Params _) before behind one = one
 syncs_begin (refusal.Snapshot _) before behind one = one
 syncs_begin (refusal.TooHeavy _ _) before behind one = one
@@ -202,9 +202,9 @@ syncs_begin refusal.Device before behind one = tt
 syncs_begin (refusal.Damaged _) before behind one = one
 syncs_begin refusal.NoMemory before behind one = tt
 
-syncs_free_begin : (why : Refusal) (before behind : ℕ) → NeedsNoCause why → SyncsRun of_begin (Err why) before behind
-syncs_free_begin why before behind (inl is) = subst (λ w. SyncsRun of_begin (Err w) before behind) (sym is) tt
-syncs_free_begin why before behind (inr is) = subst (λ w. SyncsRun of_begin (Err w) before behind) (sym is) tt
+syncs_free_begin : (why : Refusal) (before behind : ℕ) → NeedsNoCause why → SyncsJob of_begin (Err why) before behind
+syncs_free_begin why before behind (inl is) = subst (λ w. SyncsJob of_begin (Err w) before behind) (sym is) tt
+syncs_free_begin why before behind (inr is) = subst (λ w. SyncsJob of_begin (Err w) before behind) (sym is) tt
 
 -- no sync was made
 syncs_none : (why : Refusal) (before behind : ℕ) → behind ≡ before → SyncsBehind why before behind
@@ -227,45 +227,45 @@ syncs_any why before behind (inl is) = subst (λ w. SyncsBehind w before behind)
 syncs_any why before behind (inr is) = subst (λ w. SyncsBehind w before behind) (sym is) tt
 
 -- the same where the first sync failed, or the line wasn't said
-pub syncs_host_begin : (error : HostError) (before behind : ℕ) → SyncsRun of_begin (Err (of_host error)) before behind
+pub syncs_host_begin : (error : HostError) (before behind : ℕ) → SyncsJob of_begin (Err (of_host error)) before behind
 syncs_host_begin Fault before behind = tt
 syncs_host_begin NoMemory before behind = tt
 
-pub syncs_host_run : (error : HostError) (before behind : ℕ) → SyncsRun of_run (Err (of_host error)) before behind
+pub syncs_host_run : (error : HostError) (before behind : ℕ) → SyncsJob of_run (Err (of_host error)) before behind
 syncs_host_run Fault before behind = tt
 syncs_host_run NoMemory before behind = tt
 
 pub syncs_line_begin : (answer : Result (Unit {0}) HostError) (before behind : ℕ) → before + 1 ≤ behind
-    → SyncsRun of_begin (said_answer answer) before behind
+    → SyncsJob of_begin (said_answer answer) before behind
 syncs_line_begin (Ok tt) before behind more = more
 syncs_line_begin (Err Fault) before behind more = tt
 syncs_line_begin (Err NoMemory) before behind more = tt
 
 pub syncs_line_run : (answer : Result (Unit {0}) HostError) (before behind : ℕ) → before + 1 ≤ behind
-    → SyncsRun of_run (said_answer answer) before behind
+    → SyncsJob of_run (said_answer answer) before behind
 syncs_line_run (Ok tt) before behind more = more
 syncs_line_run (Err Fault) before behind more = tt
 syncs_line_run (Err NoMemory) before behind more = tt
 
 -- what `start` and `demo` owe where they refuse, behind the first sync
-pub syncs_start : (why : Refusal) (before middle behind : Tally) → middle.syncs ≡ before.syncs + 1
-    → ((NeedsNoCause why → ⊥) → behind ≡ middle) → SyncsRun of_begin (Err why) before.syncs behind.syncs
+pub syncs_start : (why : Refusal) (before middle behind : CallTally) → middle.syncs ≡ before.syncs + 1
+    → ((NeedsNoCause why → ⊥) → behind ≡ middle) → SyncsJob of_begin (Err why) before.syncs behind.syncs
 syncs_start why before middle behind one unsynced = elim (free_or_not why) [
   | inl free ↦ syncs_free_begin why before.syncs behind.syncs free
-  | inr cause ↦ syncs_begin why before.syncs behind.syncs (ap (λ (t : Tally). t.syncs) (unsynced cause) ∙ one)
+  | inr cause ↦ syncs_begin why before.syncs behind.syncs (ap (λ (t : CallTally). t.syncs) (unsynced cause) ∙ one)
 ]
 
 -- a slot that is spoilt is no file of the journal
-syncs_spoilt : (files : ℕ → List ℕ) (why : Refusal) (before behind : ℕ) → IsSlotSpoilt files why → SyncsBehind why before behind
+syncs_spoilt : (files : ℕ → List ℕ) (why : Refusal) (before behind : ℕ) → IsSlotDamaged files why → SyncsBehind why before behind
 syncs_spoilt files why before behind spoilt =
-    subst (λ w. SyncsBehind w before behind) (sym spoilt.shown) (λ same. absurd (omega (arith, spoilt.file.0, same)))
+    subst (λ w. SyncsBehind w before behind) (sym spoilt.named) (λ same. absurd (omega (arith, spoilt.file.0, same)))
 
-pub syncs_resume : (files : ℕ → List ℕ) (why : Refusal) (before behind : Tally)
-    → NeedsNoCause why ⊎ IsNotShown (files journal_file) why ⊎ IsSlotSpoilt files why
+pub syncs_resume : (files : ℕ → List ℕ) (why : Refusal) (before behind : CallTally)
+    → NeedsNoCause why ⊎ IsShowRefused (files journal_file) why ⊎ IsSlotDamaged files why
     → (((log : Log) → IsJournal log (files journal_file) → ⊥) → behind ≡ before) → SyncsBehind why before.syncs behind.syncs
 syncs_resume files why before behind (inl free) unsynced = syncs_any why before.syncs behind.syncs free
 syncs_resume files why before behind (inr (inl none)) unsynced =
-    syncs_none why before.syncs behind.syncs (ap (λ (t : Tally). t.syncs) (unsynced (λ log journal. not_shown log journal none)))
+    syncs_none why before.syncs behind.syncs (ap (λ (t : CallTally). t.syncs) (unsynced (λ log journal. not_shown log journal none)))
 syncs_resume files why before behind (inr (inr spoilt)) unsynced =
     syncs_spoilt files why before.syncs behind.syncs spoilt
 
@@ -278,13 +278,13 @@ syncs_leg target s why before behind (inr far) more =
     let leg = subst IsOfLeg (sym far.2) tt in
     subst (λ w. SyncsBehind w before behind) (sym far.2) (more leg)
 
-pub syncs_go : (target : ℕ) (files : ℕ → List ℕ) (why : Refusal) (before behind : Tally)
-    → NeedsNoCause why ⊎ IsGoRefused target files why ⊎ IsSlotSpoilt files why
+pub syncs_go : (target : ℕ) (files : ℕ → List ℕ) (why : Refusal) (before behind : CallTally)
+    → NeedsNoCause why ⊎ IsGoRefused target files why ⊎ IsSlotDamaged files why
     → (((log : Log) → IsJournal log (files journal_file) → ⊥) → behind ≡ before)
     → (IsOfLeg why → before.syncs ≤ behind.syncs) → SyncsBehind why before.syncs behind.syncs
 syncs_go target files why before behind (inl free) unsynced more = syncs_any why before.syncs behind.syncs free
 syncs_go target files why before behind (inr (inl (inl none))) unsynced more =
-    syncs_none why before.syncs behind.syncs (ap (λ (t : Tally). t.syncs) (unsynced (λ log journal. not_shown log journal none)))
+    syncs_none why before.syncs behind.syncs (ap (λ (t : CallTally). t.syncs) (unsynced (λ log journal. not_shown log journal none)))
 syncs_go target files why before behind (inr (inl (inr leg))) unsynced more =
     syncs_leg target (progress_of leg.0) why before.syncs behind.syncs leg.2 more
 syncs_go target files why before behind (inr (inr spoilt)) unsynced more =
@@ -292,8 +292,8 @@ syncs_go target files why before behind (inr (inr spoilt)) unsynced more =
 
 -- the first sync failed
 pub counts_first : {H T : Type 0} {m : HostModel H} {by : Image → Image → Type 0} {old new : H} {result : Result T HostError}
-    {error : HostError} (all : Syncs) → ((before behind : ℕ) → SyncsRun all (Err (of_host error)) before behind)
-    → RanSyncing m 1 Fault by old new result → result ≡ Err error → CountsRun m all old new (Err (of_host error))
+    {error : HostError} (all : Syncs) → ((before behind : ℕ) → SyncsJob all (Err (of_host error)) before behind)
+    → RanSyncing m 1 Fault by old new result → result ≡ Err error → CountsJob m all old new (Err (of_host error))
 counts_first {old = old} {new = new} {error = error} all free ran is = record {
   count = ran.count;
   rose = λ err. ran.rose (is ∙ ap Err (by_device error err));
@@ -316,8 +316,8 @@ pub counts_session : {H S T : Type 0} {m : HostModel H} {one two : Image → Ima
     {first : Result S HostError} {result : Result T Refusal} {why : Refusal} (all : Syncs) → IsOk first
     → RanSyncing m 1 Fault one old middle first → RanSession m two middle new result → result ≡ Err why
     → (IsTrue m.tells → (m.tally middle).syncs ≡ (m.tally old).syncs + 1
-    → SyncsRun all (Err why) (m.tally old).syncs (m.tally new).syncs)
-    → CountsRun m all old new (Err why)
+    → SyncsJob all (Err why) (m.tally old).syncs (m.tally new).syncs)
+    → CountsJob m all old new (Err why)
 counts_session {m = m} {old = old} {middle = middle} {new = new} {why = why} all ok before after is syncs =
     let same = before.spared (ok_is_no_error ok) in
     record {
@@ -334,7 +334,7 @@ counts_session {m = m} {old = old} {middle = middle} {new = new} {why = why} all
 -- a session that said its lines itself
 pub counts_whole : {H S T : Type 0} {m : HostModel H} {one two : Image → Image → Type 0} {old middle new : H}
     {first : Result S HostError} {result : Result T Refusal} → IsOk first → RanSyncing m 1 Fault one old middle first
-    → RanSession m two middle new result → IsOk result → CountsRun m of_begin old new (Ok tt)
+    → RanSession m two middle new result → IsOk result → CountsJob m of_begin old new (Ok tt)
 counts_whole {m = m} {new = new} ok before after done =
     let same = before.spared (ok_is_no_error ok) in
     record {
@@ -351,9 +351,9 @@ counts_whole {m = m} {new = new} ok before after done =
 -- its line, behind the session
 pub counts_line : {H S T : Type 0} {m : HostModel H} {one two : Image → Image → Type 0} {old middle last new : H}
     {first : Result S HostError} {result : Result T Refusal} {line : List ℕ} {answer : Result (Unit {0}) HostError} (all : Syncs)
-    → ((before behind : ℕ) → before + 1 ≤ behind → SyncsRun all (said_answer answer) before behind) → IsOk first
+    → ((before behind : ℕ) → before + 1 ≤ behind → SyncsJob all (said_answer answer) before behind) → IsOk first
     → RanSyncing m 1 Fault one old middle first → RanSession m two middle last result → IsOk result
-    → Spoke m channels.Out line last new answer → CountsRun m all old new (said_answer answer)
+    → RanSaying m channels.Out line last new answer → CountsJob m all old new (said_answer answer)
 counts_line {m = m} {new = new} {answer = answer} all said ok before after done spoke =
     let spared = after.spared (ok_is_no_error done) ∙ before.spared (ok_is_no_error ok) in
     record {

@@ -15,15 +15,12 @@ use Rattle.nb_host.proofs.Callers.{every_since}
 use Rattle.nb_model.specs.declared.body.Body.{Body}
 use Rattle.nb_model.specs.Leapfrog.{escaped_count}
 use Rattle.nb_model.specs.Legs.{directions_to}
-use Rattle.nb_model.specs.Limits.{most_bodies, most_ticks}
-use Rattle.nb_format.specs.Digits.{number_of}
+use Rattle.nb_model.specs.Limits.{most_bodies}
 use Rattle.nb_format.specs.Lines.{made_line}
 use Rattle.nb_format.specs.Snapshot.{AreStoredBodies}
 use Rattle.nb_format.proofs.Snapshots.{snapshot_whole}
 use Rattle.nb_journal.specs.declared.entry.Entry.{Entry}
-use Rattle.nb_journal.specs.declared.entry.Entry.TheVariants.{Leg, Tick}
-use Rattle.nb_journal.specs.Entries.{Progress, AreLawful, toward, progress_after, after_all}
-use Rattle.nb_journal.specs.Form.{Log, IsFresh, IsJournal, IsCleanJournal, IsLawful, begun, progress_of}
+use Rattle.nb_journal.specs.Form.{Log, IsFresh, IsJournal, IsCleanJournal, IsLawful, progress_of}
 use Rattle.nb_journal.specs.Offsets.{journal_file}
 use Rattle.nb_journal.proofs.Callers.{fresh_alone}
 use Rattle.nb_engine.specs.Acknowledged.{IsAcknowledgedUpTo, IsOtherText}
@@ -64,7 +61,7 @@ sound_same {old = old} {new = new} files said (inr run) =
       run.1,
       record {
         run = represents_kept run.0 old new run.2.run (at _) (at _) (at _) (λ j some within. at _);
-        told = subst (IsAcknowledgedUpTo (ticks_of run.0)) (sym said) run.2.told;
+        acknowledged = subst (IsAcknowledgedUpTo (ticks_of run.0)) (sym said) run.2.acknowledged;
       },
     )
 
@@ -87,8 +84,8 @@ sound_beside {old = old} {new = new} {text = text} other files said (inr run) =
             (subst (IsCleanJournal run.0.log) (sym (files journal_file (omega arith))) run.2.run.journal)
             (files init_file (omega arith)) (files (3 + ticks_of run.0 % 2) (omega arith))
             (λ j some within. files (snap_of j) (omega arith));
-        told = subst (IsAcknowledgedUpTo (ticks_of run.0)) (sym said.2)
-            (told_other (ticks_of run.0) said.0 (old.said channels.Out) text other run.2.told);
+        acknowledged = subst (IsAcknowledgedUpTo (ticks_of run.0)) (sym said.2)
+            (told_other (ticks_of run.0) said.0 (old.said channels.Out) text other run.2.acknowledged);
       },
     )
 
@@ -114,7 +111,7 @@ sound_then sound other then =
 sound_goes : LineTellsOne → {most : ℕ} {h : History} {old new : Image} → IsHistory h → IsAcknowledgedUpTo (ticks_of h) (old.said channels.Out)
     → GoesOn most h old new → IsSoundImage new
 sound_goes law {h = h} is told goes =
-    inr (played goes.done h, history-played goes.done h is, record { run = goes.represents; told = told_goes law is told goes })
+    inr (played goes.done h, history-played goes.done h is, record { run = goes.represents; acknowledged = told_goes law is told goes })
 
 sound_start : {old new : Image} → IsSoundImage old → StartLeads true old new → IsSoundImage new
 sound_start {old = old} {new = new} (inl fresh) leads = elim (leads.begins refl fresh.0) [
@@ -124,7 +121,7 @@ sound_start {old = old} {new = new} (inl fresh) leads = elim (leads.begins refl 
     started_history old.file run.0 run.1.starts run.1.light,
     record {
       run = run.2;
-      told = subst (IsAcknowledgedUpTo 0) (sym (ap (λ (f : Channel → List ℕ). f channels.Out) leads.others.said)) fresh.1;
+      acknowledged = subst (IsAcknowledgedUpTo 0) (sym (ap (λ (f : Channel → List ℕ). f channels.Out) leads.others.said)) fresh.1;
     },
   )
 ]
@@ -141,17 +138,17 @@ sound_go law {old = old} (inl fresh) leads =
     let same = leads.session.idle (no_journal old fresh.0) in
     sound_same {old = old} (ap (λ (i : Image). i.file) same) (ap (λ (i : Image). i.said channels.Out) same) (inl fresh)
 sound_go law {target = target} {old = old} (inr run) leads = elim (leads.goes refl run.0 run.1 run.2.run) [
-  | inl goes ↦ sound_goes law run.1 run.2.told goes
+  | inl goes ↦ sound_goes law run.1 run.2.acknowledged goes
   | inr goes ↦
       let here = sym (ticks-legged target run.0) in
-      sound_goes law goes.0 (subst (λ (k : ℕ). IsAcknowledgedUpTo k (old.said channels.Out)) here run.2.told) goes.1
+      sound_goes law goes.0 (subst (λ (k : ℕ). IsAcknowledgedUpTo k (old.said channels.Out)) here run.2.acknowledged) goes.1
 ]
 
 sound_resume : LineTellsOne → {old new : Image} → IsSoundImage old → ResumeLeads true old new → IsSoundImage new
 sound_resume law {old = old} (inl fresh) leads =
     let same = leads.session.idle (no_journal old fresh.0) in
     sound_same {old = old} (ap (λ (i : Image). i.file) same) (ap (λ (i : Image). i.said channels.Out) same) (inl fresh)
-sound_resume law (inr run) leads = sound_goes law run.1 run.2.told (leads.goes refl run.0 run.1 run.2.run)
+sound_resume law (inr run) leads = sound_goes law run.1 run.2.acknowledged (leads.goes refl run.0 run.1 run.2.run)
 
 -- ---- each command
 
@@ -313,7 +310,7 @@ pub stays_sound : LineTellsOne → {H : Type 0} (m : HostModel H) {words : List 
     → EverySince m.crashes IsSoundImage old new
 stays_sound law m {words = words} {files = files} leads sound image honest since =
     let yes : m.crashes.is_honest ≡ true = honest in
-    every_since IsSoundImage m.counts_only_now leads.images (λ start known is. sound start known is)
+    every_since IsSoundImage m.includes_only_now leads.images (λ start known is. sound start known is)
     (λ start later known is touched.
     touches_sound law {words = words} {files = files} (sound start known is)
     (subst (λ (b : Bool). Touches b words files start later) yes touched)) image honest since

@@ -22,7 +22,7 @@ use Rattle.clap.specs.declared.error.kind.ErrorKind.{ErrorKind}
 use Rattle.clap.specs.declared.error.kind.ErrorKind.TheVariants.{UnknownArgument, InvalidValue}
 use Rattle.clap.specs.declared.parser.matches.ValueSource.TheVariants.{CommandLine}
 use Rattle.nb_format.specs.Digits.{number_of}
-use Rattle.nb_cli.specs.Words.{Setting, of_pages, of_walks, Numbers, no_numbers, with_argument, with_value, more_numbers, arguments_of, numbers_from, Kind, kind_of, apart, attached, unknown, argument, begins_with, at_word}
+use Rattle.nb_cli.specs.Words.{OptionName, of_pages, of_walks, Numbers, no_numbers, with_argument, with_value, more_numbers, arguments_of, numbers_from, Kind, kind_of, apart, attached, unknown, argument, begins_with, at_word}
 use Rattle.nb_cli.specs.Splitting.{numbers_in}
 
 -- ---- the command that splits
@@ -54,11 +54,11 @@ abbrev pub arguments_rule : Rule
 arguments_rule = record (new_rule (codes "arguments")) { index = Some 1; action = Some Append; range = one_value; parser = text_parser }
 
 -- the name of an option
-abbrev pub name_of : Setting → Text
+abbrev pub name_of : OptionName → Text
 name_of of_pages = codes "pages"
 name_of of_walks = codes "walks"
 
-abbrev pub option_rule : Setting → Rule
+abbrev pub option_rule : OptionName → Rule
 option_rule setting =
     record (new_rule (name_of setting)) { long = Some (name_of setting); action = Some Append; range = one_value; parser = text_parser }
 
@@ -74,21 +74,18 @@ shape = record (new_shape (codes "nbody")) {
   is_built = true;
 }
 
-built_is : (built split_app).top ≡ shape
-built_is = refl
-
 -- ---- where the walk over the words stands
 
 -- What waits to be kept: nothing, or one value, of an option or, where it is none, of the arguments.
 pub data Pending : Type 0 where
   nothing : Pending
-  one : Option Setting → Text → Pending
+  one : Option OptionName → Text → Pending
 
-abbrev pub id_of : Option Setting → Text
+abbrev pub id_of : Option OptionName → Text
 id_of None = codes "arguments"
 id_of (Some setting) = name_of setting
 
-abbrev pub rule_at : Option Setting → Rule
+abbrev pub rule_at : Option OptionName → Rule
 rule_at None = arguments_rule
 rule_at (Some setting) = option_rule setting
 
@@ -100,7 +97,7 @@ abbrev pub held : List Row → Pending → Held
 held rows p = record { rows = rows; pending = pending p; skip = 0 }
 
 -- an option was met, and its value wasn't yet
-abbrev pub opened : List Row → Setting → Held
+abbrev pub opened : List Row → OptionName → Held
 opened rows setting = record { rows = rows; pending = Some (name_of setting, []); skip = 0 }
 
 -- a word of the arguments came last, or none did
@@ -152,7 +149,7 @@ lists rows = record {
 abbrev pub no_lists : Lists
 no_lists = record { arguments = []; pages = []; walks = [] }
 
-abbrev pub one_of : Option Setting → Text → Lists
+abbrev pub one_of : Option OptionName → Text → Lists
 one_of None v = record no_lists { arguments = v ∷ [] }
 one_of (Some of_pages) v = record no_lists { pages = v ∷ [] }
 one_of (Some of_walks) v = record no_lists { walks = v ∷ [] }
@@ -199,7 +196,7 @@ values_at-other id other vs a (r ∷ rows) differ = go (bytes_eq r.id id) refl (
     go2 true f = rw (e, f) refl
     go2 false f = rw (e, f) rest
 
-lists-used : (which : Option Setting) (v : Text) (rows : List Row)
+lists-used : (which : Option OptionName) (v : Text) (rows : List Row)
     → lists (used (rule_at which) (v ∷ []) rows) ≡ joined (lists rows) (one_of which v)
 lists-used None v rows = same_lists (values_at-with (codes "arguments") (v ∷ []) arguments_rule rows refl)
     (values_at-other (codes "arguments") (codes "pages") (v ∷ []) arguments_rule rows refl ∙ sym (append-nil _))
@@ -221,7 +218,7 @@ all_numbers a p w = option_and_then (λ a. option_and_then (λ p. option_map (λ
 abbrev pub numbers_of : Lists → Option Numbers
 numbers_of l = all_numbers (numbers_in l.arguments) (numbers_in l.pages) (numbers_in l.walks)
 
-abbrev pub adding : Option Setting → ℕ → Numbers → Numbers
+abbrev pub adding : Option OptionName → ℕ → Numbers → Numbers
 adding None = with_argument
 adding (Some setting) = with_value setting
 
@@ -256,7 +253,7 @@ walks_first None (Some a) (Some p) w = refl
 walks_first (Some n) (Some a) (Some p) None = refl
 walks_first (Some n) (Some a) (Some p) (Some w) = refl
 
-numbers_of-joined : (which : Option Setting) (v : Text) (l : Lists)
+numbers_of-joined : (which : Option OptionName) (v : Text) (l : Lists)
     → numbers_of (joined (one_of which v) l) ≡ more_numbers (adding which) v (numbers_of l)
 numbers_of-joined None v l = argument_first (number_of v) (numbers_in l.arguments) (numbers_in l.pages) (numbers_in l.walks)
 numbers_of-joined (Some of_pages) v l = pages_first (number_of v) (numbers_in l.arguments) (numbers_in l.pages) (numbers_in l.walks)
@@ -307,7 +304,7 @@ fault_here w word words kind kinds here = (
 )
 
 -- a word that is kept
-keeps_on : (w then : Walk) (which : Option Setting) (word v : Text) (words : List Text) (numbers : Option Numbers)
+keeps_on : (w then : Walk) (which : Option OptionName) (word v : Text) (words : List Text) (numbers : Option Numbers)
     → turn_fault shape [] w word ≡ [] → walked rules [] w word ≡ then
     → lists (now then) ≡ joined (lists (now w)) (one_of which v)
     → Splits then words numbers → Splits w (word ∷ words) (more_numbers (adding which) v numbers)
@@ -369,7 +366,7 @@ trailing_fault q rows (one (Some of_pages) v) word = refl
 trailing_fault q rows (one (Some of_walks) v) word = refl
 
 -- what is kept when one value more waits
-gains_one : (t : Bool) (q : Waiting) (t' : Bool) (q' : Waiting) (rows : List Row) (p : Pending) (which : Option Setting) (v : Text)
+gains_one : (t : Bool) (q : Waiting) (t' : Bool) (q' : Waiting) (rows : List Row) (p : Pending) (which : Option OptionName) (v : Text)
     → lists (now (at t' q' (held (kept rows p) (one which v)))) ≡ joined (lists (now (at t q (held rows p)))) (one_of which v)
 gains_one t q t' q' rows p which v =
     ap lists (kept_is (kept rows p) (one which v)) ∙ lists-used which v (kept rows p)
@@ -458,7 +455,7 @@ argument_fault r rows p word plain =
       placed (one (Some of_walks) v) = refl
 
 -- where it is the value of an option
-value_walk : (rows : List Row) (s : Setting) (word : Text) → IsPlain word
+value_walk : (rows : List Row) (s : OptionName) (word : Text) → IsPlain word
     → walked rules [] (at false (option (name_of s)) (opened rows s)) word ≡ at false idle (held rows (one (Some s) word))
 unfolding walked
 value_walk rows of_pages word plain =
@@ -468,7 +465,7 @@ value_walk rows of_walks word plain =
     rw plain.dashes (ap (λ (m : Held × Step). after_step rules word (at false (option (name_of of_walks)) (opened rows of_walks)) m.0 m.1)
     (plain_other (option (name_of of_walks)) word rows (Some (name_of of_walks, [])) plain))
 
-value_fault : (rows : List Row) (s : Setting) (word : Text) → IsPlain word
+value_fault : (rows : List Row) (s : OptionName) (word : Text) → IsPlain word
     → turn_fault shape [] (at false (option (name_of s)) (opened rows s)) word ≡ []
 value_fault rows of_pages word plain =
     rw plain.dashes (no_kinds _ _ (plain_other_fault word rows (Some (name_of of_pages, [])) plain)
@@ -479,15 +476,15 @@ value_fault rows of_walks word plain =
 
 -- ---- options
 
-abbrev pub dashed : Setting → Text
+abbrev pub dashed : OptionName → Text
 dashed of_pages = codes "--pages"
 dashed of_walks = codes "--walks"
 
-abbrev pub assigned : Setting → Text
+abbrev pub assigned : OptionName → Text
 assigned of_pages = codes "--pages="
 assigned of_walks = codes "--walks="
 
-apart_walk : (r : Ready) (rows : List Row) (p : Pending) (s : Setting)
+apart_walk : (r : Ready) (rows : List Row) (p : Pending) (s : OptionName)
     → walked rules [] (at false (waits r) (held rows p)) (dashed s) ≡ at false (option (name_of s)) (opened (kept rows p) s)
 unfolding walked
 apart_walk first rows nothing of_pages = refl
@@ -507,7 +504,7 @@ apart_walk later rows (one (Some of_pages) v) of_walks = refl
 apart_walk later rows (one (Some of_walks) v) of_pages = refl
 apart_walk later rows (one (Some of_walks) v) of_walks = refl
 
-apart_fault : (r : Ready) (rows : List Row) (p : Pending) (s : Setting) → turn_fault shape [] (at false (waits r) (held rows p)) (dashed s) ≡ []
+apart_fault : (r : Ready) (rows : List Row) (p : Pending) (s : OptionName) → turn_fault shape [] (at false (waits r) (held rows p)) (dashed s) ≡ []
 apart_fault first rows nothing of_pages = refl
 apart_fault first rows nothing of_walks = refl
 apart_fault first rows (one None v) of_pages = refl
@@ -525,7 +522,7 @@ apart_fault later rows (one (Some of_pages) v) of_walks = refl
 apart_fault later rows (one (Some of_walks) v) of_pages = refl
 apart_fault later rows (one (Some of_walks) v) of_walks = refl
 
-attached_walk : (r : Ready) (rows : List Row) (p : Pending) (s : Setting) (value : Text)
+attached_walk : (r : Ready) (rows : List Row) (p : Pending) (s : OptionName) (value : Text)
     → walked rules [] (at false (waits r) (held rows p)) (assigned s ++ value)
     ≡ at false idle (held (used (option_rule s) (value ∷ []) (kept rows p)) nothing)
 unfolding walked
@@ -546,7 +543,7 @@ attached_walk later rows (one (Some of_pages) v) of_walks value = refl
 attached_walk later rows (one (Some of_walks) v) of_pages value = refl
 attached_walk later rows (one (Some of_walks) v) of_walks value = refl
 
-attached_fault : (r : Ready) (rows : List Row) (p : Pending) (s : Setting) (value : Text)
+attached_fault : (r : Ready) (rows : List Row) (p : Pending) (s : OptionName) (value : Text)
     → turn_fault shape [] (at false (waits r) (held rows p)) (assigned s ++ value) ≡ []
 attached_fault first rows nothing of_pages value = refl
 attached_fault first rows nothing of_walks value = refl
@@ -575,8 +572,8 @@ pub record IsUnknown (word : Text) : Type 0 where
 abbrev pub Sort : Text → Type 0
 Sort word =
     (word ≡ codes "--")
-    ⊎ ((s : Setting) × (word ≡ dashed s))
-    ⊎ ((s : Setting) × (value : Text) × (word ≡ assigned s ++ value))
+    ⊎ ((s : OptionName) × (word ≡ dashed s))
+    ⊎ ((s : OptionName) × (value : Text) × (word ≡ assigned s ++ value))
     ⊎ (IsUnknown word × IsBad word)
     ⊎ (IsUnknown word × IsPlain word)
     ⊎ ((kind_of word ≡ argument) × IsPlain word)
@@ -593,7 +590,7 @@ abbrev pub is_equals : ℕ → Bool
 is_equals c = c == 61
 
 -- A name before a first `=` is one of the two only where the text is the name, or goes on with `=`.
-at_equals : (t : Text) (s : Setting) → before_first is_equals t ≡ name_of s
+at_equals : (t : Text) (s : OptionName) → before_first is_equals t ≡ name_of s
     → (t ≡ name_of s) ⊎ ((u : Text) × (t ≡ name_of s ++ 61 ∷ u))
 at_equals t s is = go (drop (position_or_len is_equals t) t) parts where
   parts : t ≡ name_of s ++ drop (position_or_len is_equals t) t
@@ -602,11 +599,11 @@ at_equals t s is = go (drop (position_or_len is_equals t) t) parts where
   length_is : length (before_first is_equals t) ≡ position_or_len is_equals t
   length_is = length-take-le (position_or_len is_equals t) t (prefix_len-le-length (λ x. not (is_equals x)) t)
 
-  longer : (s : Setting) (c : ℕ) (u : Text) → is_equals c ≡ false → 6 ≤ position_or_len is_equals (name_of s ++ c ∷ u)
+  longer : (s : OptionName) (c : ℕ) (u : Text) → is_equals c ≡ false → 6 ≤ position_or_len is_equals (name_of s ++ c ∷ u)
   longer of_pages c u differ = rw differ (omega arith)
   longer of_walks c u differ = rw differ (omega arith)
 
-  five : (s : Setting) → length (name_of s) ≡ 5
+  five : (s : OptionName) → length (name_of s) ≡ 5
   five of_pages = refl
   five of_walks = refl
 
@@ -624,14 +621,14 @@ at_equals t s is = go (drop (position_or_len is_equals t) t) parts where
         absurd (omega (arith, more, place, short))
 
 -- The name of a flag that is no option isn't that of one.
-not_named : (t : Text) (s : Setting) → bytes_eq (45 ∷ 45 ∷ t) (dashed s) ≡ false → begins_with (45 ∷ 45 ∷ t) (assigned s) ≡ false
+not_named : (t : Text) (s : OptionName) → bytes_eq (45 ∷ 45 ∷ t) (dashed s) ≡ false → begins_with (45 ∷ 45 ∷ t) (assigned s) ≡ false
     → bytes_eq (name_of s) (before_first is_equals t) ≡ false
 not_named t s not_whole not_part = go (bytes_eq (name_of s) (before_first is_equals t)) refl where
-  whole : (s : Setting) (t : Text) → t ≡ name_of s → bytes_eq (45 ∷ 45 ∷ t) (dashed s) ≡ true
+  whole : (s : OptionName) (t : Text) → t ≡ name_of s → bytes_eq (45 ∷ 45 ∷ t) (dashed s) ≡ true
   whole of_pages t e = rw e refl
   whole of_walks t e = rw e refl
 
-  part : (s : Setting) (t u : Text) → t ≡ name_of s ++ 61 ∷ u → begins_with (45 ∷ 45 ∷ t) (assigned s) ≡ true
+  part : (s : OptionName) (t u : Text) → t ≡ name_of s ++ 61 ∷ u → begins_with (45 ∷ 45 ∷ t) (assigned s) ≡ true
   part of_pages t u e = rw e refl
   part of_walks t u e = rw e refl
 
@@ -648,7 +645,7 @@ sorts_long x xs = go1 (bytes_eq word (dashed of_pages)) refl where
   word : Text
   word = 45 ∷ 45 ∷ x ∷ xs
 
-  is_attached : (s : Setting) → begins_with word (assigned s) ≡ true → word ≡ assigned s ++ drop (length (assigned s)) word
+  is_attached : (s : OptionName) → begins_with word (assigned s) ≡ true → word ≡ assigned s ++ drop (length (assigned s)) word
   is_attached s e =
       sym (take-append-drop (length (assigned s)) word)
       ∙ ap (λ (f : Text). f ++ drop (length (assigned s)) word) (sym ((bytes_eq-Decides (assigned s) (take (length (assigned s)) word)).0 e))
@@ -737,7 +734,7 @@ sorts (c ∷ t) = go (c == 45) refl where
 
 -- ---- all words
 
-abbrev pub from : Option Setting → Ready → List Row → Pending → Walk
+abbrev pub from : Option OptionName → Ready → List Row → Pending → Walk
 from None r rows p = at false (waits r) (held rows p)
 from (Some s) r rows p = at false (option (name_of s)) (opened rows s)
 
@@ -752,7 +749,7 @@ dashes_fault first rows p = refl
 dashes_fault later rows p = refl
 
 -- an option without its value yet has kept nothing
-lists-opened : (rows : List Row) (s : Setting) (q : Waiting) → lists (now (at false q (opened rows s))) ≡ lists rows
+lists-opened : (rows : List Row) (s : OptionName) (q : Waiting) → lists (now (at false q (opened rows s))) ≡ lists rows
 lists-opened rows of_pages q = same_lists
     (values_at-other (codes "pages") (codes "arguments") [] (option_rule of_pages) rows refl)
     (values_at-with (codes "pages") [] (option_rule of_pages) rows refl ∙ append-nil _)
@@ -780,7 +777,7 @@ bad_fault q rows p word bad =
     )
 
 -- An option that has no value when another flag comes, or the end, is refused.
-doomed : (words : List Text) (q : Waiting) (rows : List Row) (s : Setting)
+doomed : (words : List Text) (q : Waiting) (rows : List Row) (s : OptionName)
     → (kinds : Kinds) × (rest_fault (at true q (opened rows s)) words ≡ InvalidValue ∷ kinds)
 unfolding walk_fault
 doomed [] q rows of_pages = (_, refl)
@@ -788,20 +785,20 @@ doomed [] q rows of_walks = (_, refl)
 doomed (word ∷ words) q rows of_pages = fault_here (at true q (opened rows of_pages)) word words InvalidValue [] refl
 doomed (word ∷ words) q rows of_walks = fault_here (at true q (opened rows of_walks)) word words InvalidValue [] refl
 
-opened_dashes : (rows : List Row) (s : Setting)
+opened_dashes : (rows : List Row) (s : OptionName)
     → walked rules [] (at false (option (name_of s)) (opened rows s)) (codes "--") ≡ at true (option (name_of s)) (opened rows s)
 unfolding walked
 opened_dashes rows of_pages = refl
 opened_dashes rows of_walks = refl
 
-opened_apart : (rows : List Row) (s other : Setting)
+opened_apart : (rows : List Row) (s other : OptionName)
     → (kinds : Kinds) × (turn_fault shape [] (at false (option (name_of s)) (opened rows s)) (dashed other) ≡ InvalidValue ∷ kinds)
 opened_apart rows of_pages of_pages = (_, refl)
 opened_apart rows of_pages of_walks = (_, refl)
 opened_apart rows of_walks of_pages = (_, refl)
 opened_apart rows of_walks of_walks = (_, refl)
 
-opened_attached : (rows : List Row) (s other : Setting) (value : Text)
+opened_attached : (rows : List Row) (s other : OptionName) (value : Text)
     → (kinds : Kinds) × (turn_fault shape [] (at false (option (name_of s)) (opened rows s)) (assigned other ++ value) ≡ InvalidValue ∷ kinds)
 opened_attached rows of_pages of_pages value = (_, refl)
 opened_attached rows of_pages of_walks value = (_, refl)
@@ -816,7 +813,7 @@ refuses_here w word words numbers kind here none =
     inl (record { kind = kind; kinds = fault.0; fault = fault.1; none = none })
 
 abbrev pub Behind : List Text → Type 0
-Behind words = (o : Option Setting) (r : Ready) (rows : List Row) (p : Pending) → Splits (from o r rows p) words (numbers_from o words)
+Behind words = (o : Option OptionName) (r : Ready) (rows : List Row) (p : Pending) → Splits (from o r rows p) words (numbers_from o words)
 
 abbrev pub at_kind : Kind → Text → List Text → Option Numbers
 at_kind kind word words = at_word kind word (arguments_of words) (λ before. numbers_from before words)
@@ -825,11 +822,11 @@ numbers_at : (word : Text) (words : List Text) → numbers_from None (word ∷ w
 unfolding numbers_from
 numbers_at word words = refl
 
-attached_kind : (s : Setting) (value : Text) → kind_of (assigned s ++ value) ≡ attached s value
+attached_kind : (s : OptionName) (value : Text) → kind_of (assigned s ++ value) ≡ attached s value
 attached_kind of_pages value = refl
 attached_kind of_walks value = refl
 
-apart_kind : (s : Setting) → kind_of (dashed s) ≡ apart s
+apart_kind : (s : OptionName) → kind_of (dashed s) ≡ apart s
 apart_kind of_pages = refl
 apart_kind of_walks = refl
 
@@ -873,7 +870,7 @@ on_word word words r rows p (inr (inr (inr (inr (inr both))))) behind =
     (behind None later (kept rows p) (one None word)))
 
 -- a plain word where an option waits for its value
-on_value : (word : Text) (words : List Text) (s : Setting) (r : Ready) (rows : List Row) (p : Pending) → IsPlain word → Behind words
+on_value : (word : Text) (words : List Text) (s : OptionName) (r : Ready) (rows : List Row) (p : Pending) → IsPlain word → Behind words
     → Splits (from (Some s) r rows p) (word ∷ words) (more_numbers (with_value s) word (numbers_from None words))
 on_value word words s r rows p plain behind =
     keeps_on (from (Some s) r rows p) (from None first rows (one (Some s) word)) (Some s) word word words (numbers_from None words)
@@ -882,19 +879,19 @@ on_value word words s r rows p plain behind =
     ∙ ap (λ (l : Lists). joined l (one_of (Some s) word)) (sym (lists-opened rows s (option (name_of s)))))
     (behind None first rows (one (Some s) word))
 
-none_added : (s : Setting) (word : Text) (numbers : Option Numbers) → number_of word ≡ None → more_numbers (with_value s) word numbers ≡ None
+none_added : (s : OptionName) (word : Text) (numbers : Option Numbers) → number_of word ≡ None → more_numbers (with_value s) word numbers ≡ None
 none_added s word numbers none = ap (λ (n : Option ℕ). added (with_value s) n numbers) none
 
-no_number_apart : (s : Setting) → number_of (dashed s) ≡ None
+no_number_apart : (s : OptionName) → number_of (dashed s) ≡ None
 no_number_apart of_pages = refl
 no_number_apart of_walks = refl
 
-no_number_attached : (s : Setting) (value : Text) → number_of (assigned s ++ value) ≡ None
+no_number_attached : (s : OptionName) (value : Text) → number_of (assigned s ++ value) ≡ None
 no_number_attached of_pages value = no_number (codes "-pages=" ++ value)
 no_number_attached of_walks value = no_number (codes "-walks=" ++ value)
 
 -- any word there
-on_opened : (word : Text) (words : List Text) (s : Setting) (r : Ready) (rows : List Row) (p : Pending) → Sort word → Behind words
+on_opened : (word : Text) (words : List Text) (s : OptionName) (r : Ready) (rows : List Row) (p : Pending) → Sort word → Behind words
     → Splits (from (Some s) r rows p) (word ∷ words) (more_numbers (with_value s) word (numbers_from None words))
 on_opened word words s r rows p (inl is) behind =
     let w = from (Some s) r rows p in
@@ -920,7 +917,7 @@ on_opened word words s r rows p (inr (inr (inr (inl both)))) behind =
 on_opened word words s r rows p (inr (inr (inr (inr (inl both))))) behind = on_value word words s r rows p both.1 behind
 on_opened word words s r rows p (inr (inr (inr (inr (inr both))))) behind = on_value word words s r rows p both.1 behind
 
-none_left : (s : Setting) (r : Ready) (rows : List Row) (p : Pending) → Splits (from (Some s) r rows p) [] None
+none_left : (s : OptionName) (r : Ready) (rows : List Row) (p : Pending) → Splits (from (Some s) r rows p) [] None
 unfolding walk_fault
 none_left of_pages r rows p = inl (record { kind = InvalidValue; kinds = []; fault = refl; none = refl })
 none_left of_walks r rows p = inl (record { kind = InvalidValue; kinds = []; fault = refl; none = refl })

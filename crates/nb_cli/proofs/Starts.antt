@@ -78,10 +78,6 @@ pub list_at-taken : (params : Params) (bodies : List Body) (time target : ℕ) {
     → taken ≡ steps params ways bodies → taken ≡ list_at target (record { params = params; bodies = bodies; time = time })
 list_at-taken params bodies time target leg is = is ∙ ap (λ (ways : List Way). steps params ways bodies) leg
 
--- a change of the file of `once`, from an image that was as before
-pub becomes_from : {P : List ℕ → List ℕ → Type 0} {old middle now : Image} → middle ≡ old → FileBecomes once_file P middle now → FileBecomes once_file P old now
-becomes_from {P} {old} {middle} {now} same becomes = let Q : Image → Type 0 = λ image. FileBecomes once_file P image now in subst Q same becomes
-
 -- the snapshot that was written of a list
 pub written_list : {old middle now : Image} {listed list : List Body} {target : ℕ} → middle ≡ old → listed ≡ list
     → FileBecomes once_file (IsFinishedAs listed target) middle now → FileBecomes once_file (IsFinishedAs list target) old now

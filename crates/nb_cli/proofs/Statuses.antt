@@ -18,7 +18,7 @@ use Rattle.nb_engine.specs.declared.going.Pace.{Pace}
 use Rattle.nb_engine.specs.Refusal.{of_host}
 use Rattle.nb_engine.specs.Represents.{RepresentsRun}
 use Rattle.nb_engine.specs.Sessions.{IsBroughtUp}
-use Rattle.nb_engine.specs.Shown.{IsNotShown}
+use Rattle.nb_engine.specs.Shown.{IsShowRefused}
 use Rattle.nb_engine.specs.Start.{Start, IsStartReady}
 use Rattle.nb_engine.specs.Steps.{SaidPrefixOf}
 use Rattle.nb_engine.specs.declared.refusal.Refusal.{Refusal}
@@ -35,7 +35,7 @@ use Rattle.nb_engine.specs.Files.{init_file}
 use Rattle.nb_cli.specs.Make.{HasMade, ParamsComeFirst, IsMaking, IsMakePartlyDone}
 use Rattle.nb_cli.specs.Telling.{IsGoDone, LeadsThenSays, SaysPrefix}
 use Rattle.nb_cli.specs.Demo.{demo_text, LeadsOn, StartsOn, IsDemoPartlyDone}
-use Rattle.nb_cli.specs.Answer.{statuses, Yields, ComesWhere, ComesByCause, HasCause, HasCauseOf, HasSpoilt, IsSpoiltBy, IsJobReady, IsJobRefused, IsJobDone, IsJobPartlyDone, BringsUp, BringsUpWords, IsUntouched, IsLeftSo, LeavesAll, Touches, RunTouches, JobTouches, HasBegun, HasBegunOrNot, JobBegins, JobBeginsOrNot, WasReported}
+use Rattle.nb_cli.specs.Answer.{statuses, Yields, ComesWhere, ComesByCause, HasCause, HasCauseOf, HasDamage, IsDamagedBy, IsJobReady, IsJobRefused, IsJobDone, IsJobPartlyDone, BringsUp, BringsUpWords, IsUntouched, IsLeftSo, LeavesAll, Touches, CallTouches, JobTouches, HasBegun, HasBegunOrNot, JobBegins, JobBeginsOrNot, WasReported}
 use Rattle.nb_cli.proofs.Commands.{one_job}
 use Rattle.nb_cli.proofs.Causes.{IsCause, no_cause, one_cause, not_gone, not_shown, not_refused_job}
 use Rattle.nb_cli.proofs.Saying.{behind_answer, behind_kept}
@@ -47,7 +47,7 @@ HasFinished honest words old now =
 
 -- Why a run isn't done: by a cause, or since a slot is spoilt, or without a cause.
 abbrev pub IsReason : List (List ℕ) → (ℕ → List ℕ) → Stop → Type 0
-IsReason words files why = HasCause words files why ⊎ HasSpoilt words files why ⊎ IsWithoutCause why
+IsReason words files why = HasCause words files why ⊎ HasDamage words files why ⊎ IsWithoutCause why
 
 -- why a command isn't done, as the program tells it
 pub run_reason : {words : List (List ℕ)} {files : ℕ → List ℕ} (job : Job) {why : Refusal} → IsJob words job
@@ -109,7 +109,7 @@ finished_where done other = record { only = λ is. absurd (other (sym is)); alwa
 
 cause_of-status : {words : List (List ℕ)} {files : ℕ → List ℕ} {why : Stop} {status result : ℕ} → IsReason words files why
     → ((result ≡ stop_status why) ⊎ Yields result) → (Yields status → ⊥) → result ≡ status
-    → HasCauseOf words files status ⊎ IsSpoiltBy words files status
+    → HasCauseOf words files status ⊎ IsDamagedBy words files status
 cause_of-status {why = why} (inl cause) (inl same) steady is = inl (why, cause, sym same ∙ is)
 cause_of-status {why = why} (inr (inl spoilt)) (inl same) steady is = inr (why, spoilt, sym same ∙ is)
 cause_of-status (inr (inr free)) (inl same) steady is = absurd (steady (subst Yields (sym same ∙ is) (free_yields free)))
@@ -117,7 +117,7 @@ cause_of-status cause (inr yields) steady is = absurd (steady (subst Yields is y
 
 status_of-cause : {words : List (List ℕ)} {files : ℕ → List ℕ} {why : Stop} {status result : ℕ} → IsReason words files why
     → ((result ≡ stop_status why) ⊎ Yields result) → (Yields (stop_status why) → result ≡ stop_status why) → HasCauseOf words files status
-    → (result ≡ status) ⊎ Yields result ⊎ IsSpoiltBy words files result
+    → (result ≡ status) ⊎ Yields result ⊎ IsDamagedBy words files result
 status_of-cause {words = words} {files = files} (inl cause) (inl same) kept holds =
     inl (same ∙ ap stop_status (one_cause {words = words} {files = files} cause holds.1) ∙ holds.2)
 status_of-cause {why = why} (inr (inl spoilt)) (inl same) kept holds = inr (inr (why, spoilt, sym same))
@@ -134,7 +134,7 @@ refused_where refused steady = record {
 
 complete_by : {words : List (List ℕ)} {files : ℕ → List ℕ} {why : Stop} {result : ℕ} (job : Job)
     → IsReason words files why → ((result ≡ stop_status why) ⊎ Yields result) → (Yields (stop_status why) → result ≡ stop_status why)
-    → IsJob words job → IsJobReady files job → Yields result ⊎ IsSpoiltBy words files result
+    → IsJob words job → IsJobReady files job → Yields result ⊎ IsDamagedBy words files result
 complete_by job (inl cause) answer kept is ready = absurd (no_cause job is ready cause)
 complete_by {why = why} job (inr (inl spoilt)) (inl same) kept is ready = inr (why, spoilt, sym same)
 complete_by job (inr (inl spoilt)) (inr yields) kept is ready = inl yields
@@ -143,7 +143,7 @@ complete_by job (inr (inr free)) answer kept is ready = inl (free_answer free ke
 -- Where the command can be done the reason is a device fault or want of memory, or a slot is spoilt.
 pub refused_complete : {words : List (List ℕ)} {old : Image} {why : Stop} {result : ℕ} (job : Job)
     → IsRefusal words old why result → IsJob words job → IsJobReady old.file job
-    → Yields result ⊎ IsSpoiltBy words old.file result
+    → Yields result ⊎ IsDamagedBy words old.file result
 refused_complete job refused is ready = complete_by job refused.cause refused.answer refused.kept is ready
 
 -- A refusal's status is none of the first two.
@@ -231,7 +231,7 @@ words_where {why = why} {result = result} only always answer kept = record {
 -- What may have changed.
 
 pub run_touches : {honest : Bool} {words : List (List ℕ)} {files : ℕ → List ℕ} {job : Job} {old now : Image} → IsJob words job
-    → JobTouches honest files job old now → RunTouches honest words files old now
+    → JobTouches honest files job old now → CallTouches honest words files old now
 run_touches {honest = honest} {words = words} {files = files} {job = job} {old = old} {now = now} is run =
     record { touches = by run.touches; err = run.err } where
       by : (now ≡ old) ⊎ IsJobPartlyDone honest files job old now → Touches honest words files old now
@@ -383,7 +383,7 @@ untouched_by then never same = record {
 }
 
 -- a session that needs a journal
-no_journal : (old : Image) {why : Refusal} → IsNotShown (old.file journal_file) why → (log : Log)
+no_journal : (old : Image) {why : Refusal} → IsShowRefused (old.file journal_file) why → (log : Log)
     → IsJournal log (old.file journal_file) → ⊥
 no_journal old none log journal = not_shown log journal none
 
@@ -493,7 +493,7 @@ pub begins_no_memory : {H : Type 0} (m : HostModel H) (words : List (List ℕ)) 
 begins_no_memory m words host = inl (leads_none m host (λ image. refl), inr (inr refl))
 
 nothing_touched : {honest : Bool} {words : List (List ℕ)} {files : ℕ → List ℕ} {old now : Image} → now ≡ old
-    → RunTouches honest words files old now
+    → CallTouches honest words files old now
 nothing_touched same = record {
   touches = inl (record {
     files = ap (λ (image : Image). image.file) same;
@@ -504,20 +504,20 @@ nothing_touched same = record {
 
 -- where it led
 pub begun_leads : {H : Type 0} {m : HostModel H} {words : List (List ℕ)} {old new : H} → HasBegun m words old new
-    → Leads m (RunTouches m.crashes.is_honest words (m.contents old).file) old new
+    → Leads m (CallTouches m.crashes.is_honest words (m.contents old).file) old new
 begun_leads begun = leads_before (λ image. nothing_touched refl) begun.before begun.since
 
 pub run_leads : {H : Type 0} {m : HostModel H} {words : List (List ℕ)} {old new : H} {why : Stop} → HasBegunOrNot m words old new why
-    → Leads m (RunTouches m.crashes.is_honest words (m.contents old).file) old new
+    → Leads m (CallTouches m.crashes.is_honest words (m.contents old).file) old new
 run_leads (inl none) = leads_more none.0 (λ start image same. nothing_touched same)
 run_leads (inr begun) = begun_leads begun
 
 pub leads_run : {H : Type 0} {m : HostModel H} {honest : Bool} {words : List (List ℕ)} {files : ℕ → List ℕ} {old new : H}
-    → Leads m (RunTouches honest words files) old new → Leads m (Touches honest words files) old new
+    → Leads m (CallTouches honest words files) old new → Leads m (Touches honest words files) old new
 leads_run run = leads_more run (λ start image step. step.touches)
 
 pub leads_told : {H : Type 0} {m : HostModel H} {honest : Bool} {words : List (List ℕ)} {files : ℕ → List ℕ} {why : Stop}
-    {old middle new : H} {status : ℕ} → Leads m (RunTouches honest words files) old middle → WasReported m why middle new status
+    {old middle new : H} {status : ℕ} → Leads m (CallTouches honest words files) old middle → WasReported m why middle new status
     → Leads m (Touches honest words files) old new
 leads_told {honest = honest} {words = words} {files = files} run told =
     leads_then run told.spoke.leads (λ start image step. step.touches)

@@ -6,13 +6,13 @@ use Rattle.nb_host.specs.Meaning.{HostModel, Leads}
 use Rattle.nb_host.proofs.Callers.{becomes_then, leads_more, leads_again}
 use Rattle.nb_format.specs.declared.snap_writer.Filling.{Filling}
 use Rattle.nb_format.specs.Reader.{last_of}
-use Rattle.nb_format.specs.Writer.{Plan, plan_of, added_count, last_added, IsEmptyFilling, HasOneMore, HasFilled, shut_bytes, IsBegun}
+use Rattle.nb_format.specs.Writer.{SnapshotPlan, plan_of, added_count, last_added, IsEmptyFilling, HasOneMore, HasFilled, shut_bytes, IsBegun}
 use Rattle.nb_cli.specs.Once.{once_file}
-use Rattle.nb_cli.specs.Done.{BecomesAny}
+use Rattle.nb_cli.specs.OnceAnswer.{BecomesAny}
 use Rattle.nb_format.proofs.Reading.{last_of-push}
 
 -- the snapshot that `once` writes
-abbrev pub once_plan : ℕ → ℕ → Plan
+abbrev pub once_plan : ℕ → ℕ → SnapshotPlan
 once_plan count when = record { file = once_file; count = count; time = when }
 
 -- The writer has taken these bodies, over any host; and they are what the file holds, where the host tells.
@@ -37,7 +37,7 @@ pub any_then : {H : Type 0} {m : HostModel H} {P : List ℕ → List ℕ → Typ
 any_then here first second =
     leads_again (λ a b c one two. becomes_then one two (λ _ _ _ _ _. tt)) first (becomes_any here second)
 
-pub HasTaken-none : {tells : Bool} {middle now : Image} {count when : ℕ} {filling : Filling} {plan : Plan}
+pub HasTaken-none : {tells : Bool} {middle now : Image} {count when : ℕ} {filling : Filling} {plan : SnapshotPlan}
     → plan ≡ once_plan count when → IsEmptyFilling plan filling → (IsTrue tells → FileBecomes plan.file (IsBegun plan) middle now)
     → HasTaken tells now count when filling []
 HasTaken-none {now = now} {plan = plan} planned empty begun = record {
@@ -45,7 +45,7 @@ HasTaken-none {now = now} {plan = plan} planned empty begun = record {
   added = empty.added;
   last = empty.last;
   filled = λ told. record {
-    spelled = let S : Plan → Type 0 = λ p. now.file p.file ≡ shut_bytes p [] in subst S (sym empty.plan) (begun told).file;
+    spelled = let S : SnapshotPlan → Type 0 = λ p. now.file p.file ≡ shut_bytes p [] in subst S (sym empty.plan) (begun told).file;
     added = empty.added;
     last = empty.last;
     stored = record { each = λ k d below. absurd (omega arith); ids = λ k below. absurd (omega arith); count = omega arith };
@@ -60,5 +60,5 @@ HasTaken-more {now = now} {next = next} {bodies = bodies} {body = body} taken mo
   plan = more.plan ∙ taken.plan;
   added = omega (arith, length-append bodies (body ∷ []));
   last = more.last ∙ sym (last_of-push bodies body);
-  filled = λ told. let P : Plan → Type 0 = λ p. HasFilled next (now.file p.file) (bodies ++ body ∷ []) in subst P (sym more.plan) (filled told (taken.filled told));
+  filled = λ told. let P : SnapshotPlan → Type 0 = λ p. HasFilled next (now.file p.file) (bodies ++ body ∷ []) in subst P (sym more.plan) (filled told (taken.filled told));
 }

@@ -5,7 +5,7 @@ use Rattle.nb_host.specs.declared.host.Channel.TheVariants as channels
 use Rattle.nb_host.specs.declared.host.HostError.{HostError}
 use Rattle.nb_host.specs.Crashes.{Stays}
 use Rattle.nb_host.specs.Image.{Image}
-use Rattle.nb_host.specs.Meaning.{HostModel, Leads, Spoke, Stopped, IsDurable}
+use Rattle.nb_host.specs.Meaning.{HostModel, Leads, RanSaying, HaltedAtFault, IsDurable}
 use Rattle.nb_format.specs.Lines.{once_line}
 use Rattle.nb_format.specs.Snapshot.{IsSnapshot, IsFinishedSnapshot}
 use Rattle.nb_journal.specs.Form.{Log, IsJournal, progress_of}
@@ -15,8 +15,8 @@ use Rattle.nb_engine.specs.declared.refusal.Refusal.TheVariants as refusal
 use Rattle.nb_engine.specs.Due.{IsLastDue}
 use Rattle.nb_engine.specs.Refusal.{of_host, NeedsNoCause}
 use Rattle.nb_engine.specs.Represents.{snap_of}
-use Rattle.nb_engine.specs.Sessions.{GoLeads, ResumeLeads, IsBroughtUp, IsGoRefused, IsOfLeg, CanGo, CanResume, IsSlotSpoilt}
-use Rattle.nb_engine.specs.Shown.{IsNotShown}
+use Rattle.nb_engine.specs.Sessions.{GoLeads, ResumeLeads, IsBroughtUp, IsGoRefused, IsOfLeg, IsGoReady, IsResumeReady, IsSlotDamaged}
+use Rattle.nb_engine.specs.Shown.{IsShowRefused}
 use Rattle.nb_engine.specs.Steps.{SaidPrefixOf}
 use Rattle.nb_cli.specs.declared.stop.Stop.{Stop}
 use Rattle.nb_cli.specs.declared.stop.Stop.TheVariants as stop
@@ -28,9 +28,9 @@ use Rattle.nb_engine.specs.Snapshots.{snapshot_files}
 use Rattle.nb_engine.specs.Start.{Start, IsStartReady, IsStartRefused, StartLeads}
 use Rattle.nb_cli.specs.Once.{once_file, once_ticks, list_at, IsOnceReady, IsOnceRefused}
 use Rattle.nb_cli.specs.Show.{show_text}
-use Rattle.nb_cli.specs.Make.{CanMake, IsThere, IsMakeDone, IsMakePartlyDone, make_syncs}
+use Rattle.nb_cli.specs.Make.{IsMakeReady, IsMakeRefused, IsMakeDone, IsMakePartlyDone, make_syncs}
 use Rattle.nb_cli.specs.Telling.{IsStartDone, IsGoDone, IsResumeDone, IsDoneThenSaid, LeadsThenSays}
-use Rattle.nb_cli.specs.Demo.{CanDemo, IsDemoRefused, IsDemoDone, IsDemoPartlyDone}
+use Rattle.nb_cli.specs.Demo.{IsDemoReady, IsDemoRefused, IsDemoDone, IsDemoPartlyDone}
 
 -- the statuses of the program: 0 where the command was done, 1 where the words are none, and those of the refusals
 abbrev pub statuses : List ℕ
@@ -51,28 +51,28 @@ pub record ComesWhere (expected status : ℕ) (Cause : Type 0) : Type 0 where
 -- is started and the target isn't too far away.
 abbrev pub IsJobReady : (ℕ → List ℕ) → Job → Type 0
 IsJobReady files (job.Start pages) = (start : Start) × IsStartReady files start
-IsJobReady files (job.Go target pace) = CanGo target files
-IsJobReady files (job.Resume pace) = CanResume files
+IsJobReady files (job.Go target pace) = IsGoReady target files
+IsJobReady files (job.Resume pace) = IsResumeReady files
 IsJobReady files (job.Once target) = (start : Start) × IsOnceReady files target start
 IsJobReady files job.Show = (log : Log) × IsJournal log (files journal_file)
-IsJobReady files (job.Make seed count) = CanMake files
-IsJobReady files (job.Demo seed count target pace) = CanDemo files target
+IsJobReady files (job.Make seed count) = IsMakeReady files
+IsJobReady files (job.Demo seed count target pace) = IsDemoReady files target
 
 -- The cause for which a command refuses by what its files hold.
 abbrev pub IsJobRefused : (ℕ → List ℕ) → Job → Refusal → Type 0
 IsJobRefused files (job.Start pages) why = IsStartRefused files why
 IsJobRefused files (job.Go target pace) why = IsGoRefused target files why
-IsJobRefused files (job.Resume pace) why = IsNotShown (files journal_file) why
+IsJobRefused files (job.Resume pace) why = IsShowRefused (files journal_file) why
 IsJobRefused files (job.Once target) why = IsOnceRefused files target why
-IsJobRefused files job.Show why = IsNotShown (files journal_file) why
-IsJobRefused files (job.Make seed count) why = IsThere files why
+IsJobRefused files job.Show why = IsShowRefused (files journal_file) why
+IsJobRefused files (job.Make seed count) why = IsMakeRefused files why
 IsJobRefused files (job.Demo seed count target pace) why = IsDemoRefused files target why
 
 -- Why a command that can be done may still refuse, by what its files hold: the slot of the last tick is spoilt.
-abbrev pub IsJobSpoilt : (ℕ → List ℕ) → Job → Refusal → Type 0
-IsJobSpoilt files (job.Go target pace) why = IsSlotSpoilt files why
-IsJobSpoilt files (job.Resume pace) why = IsSlotSpoilt files why
-IsJobSpoilt files _ why = ⊥
+abbrev pub IsJobDamaged : (ℕ → List ℕ) → Job → Refusal → Type 0
+IsJobDamaged files (job.Go target pace) why = IsSlotDamaged files why
+IsJobDamaged files (job.Resume pace) why = IsSlotDamaged files why
+IsJobDamaged files _ why = ⊥
 
 -- The cause for which the program isn't done, by what the words are and what the files hold. At most one holds.
 abbrev pub HasCause : List (List ℕ) → (ℕ → List ℕ) → Stop → Type 0
@@ -85,18 +85,18 @@ abbrev pub HasCauseOf : List (List ℕ) → (ℕ → List ℕ) → ℕ → Type 
 HasCauseOf words files status = (why : Stop) × HasCause words files why × (stop_status why ≡ status)
 
 -- The program isn't done, since a slot is spoilt.
-abbrev pub HasSpoilt : List (List ℕ) → (ℕ → List ℕ) → Stop → Type 0
-HasSpoilt words files why =
-    (job : Job) × (refusal : Refusal) × (why ≡ stop.Refused refusal) × IsJob words job × IsJobSpoilt files job refusal
+abbrev pub HasDamage : List (List ℕ) → (ℕ → List ℕ) → Stop → Type 0
+HasDamage words files why =
+    (job : Job) × (refusal : Refusal) × (why ≡ stop.Refused refusal) × IsJob words job × IsJobDamaged files job refusal
 
 -- A spoilt slot gives this status.
-abbrev pub IsSpoiltBy : List (List ℕ) → (ℕ → List ℕ) → ℕ → Type 0
-IsSpoiltBy words files status = (why : Stop) × HasSpoilt words files why × (stop_status why ≡ status)
+abbrev pub IsDamagedBy : List (List ℕ) → (ℕ → List ℕ) → ℕ → Type 0
+IsDamagedBy words files status = (why : Stop) × HasDamage words files why × (stop_status why ≡ status)
 
 -- The status comes where its cause holds, unless a slot is spoilt, and only where it does or a slot is.
 pub record ComesByCause (words : List (List ℕ)) (files : ℕ → List ℕ) (expected status : ℕ) : Type 0 where
-  pub only : status ≡ expected → HasCauseOf words files expected ⊎ IsSpoiltBy words files expected
-  pub always : HasCauseOf words files expected → (status ≡ expected) ⊎ Yields status ⊎ IsSpoiltBy words files status
+  pub only : status ≡ expected → HasCauseOf words files expected ⊎ IsDamagedBy words files expected
+  pub always : HasCauseOf words files expected → (status ≡ expected) ⊎ Yields status ⊎ IsDamagedBy words files status
 
 -- `once` is done: its file is the snapshot of the list at the target, its line was said, and nothing else changed.
 pub record IsOnceDone (target : ℕ) (start : Start) (old new : Image) : Type 0 where
@@ -177,13 +177,13 @@ abbrev pub Touches : Bool → List (List ℕ) → (ℕ → List ℕ) → Image �
 Touches honest words files old new =
     IsUntouched old new ⊎ ((job : Job) × IsJob words job × IsJobPartlyDone honest files job old new)
 
--- What a run of a command may have changed at some moment, where the files were these. It says nothing on Err.
+-- What a command may have changed at some moment, where the files were these. It says nothing on Err.
 pub record JobTouches (honest : Bool) (files : ℕ → List ℕ) (job : Job) (old new : Image) : Type 0 where
   pub touches : (new ≡ old) ⊎ IsJobPartlyDone honest files job old new
   pub err : new.said channels.Err ≡ old.said channels.Err
 
--- What a run may have changed at some moment. It says nothing on Err.
-pub record RunTouches (honest : Bool) (words : List (List ℕ)) (files : ℕ → List ℕ) (old new : Image) : Type 0 where
+-- What an invocation may have changed at some moment. It says nothing on Err.
+pub record CallTouches (honest : Bool) (words : List (List ℕ)) (files : ℕ → List ℕ) (old new : Image) : Type 0 where
   pub touches : Touches honest words files old new
   pub err : new.said channels.Err ≡ old.said channels.Err
 
@@ -202,62 +202,62 @@ pub data Syncs : Type 0 where
   of_run : Syncs
 
 -- It syncs once before a command, so that what it reads is durable, and as often as the command does.
-abbrev pub syncs_of : Job → Syncs
-syncs_of (job.Start _) = of_begin
-syncs_of (job.Go _ _) = of_run
-syncs_of (job.Resume _) = of_run
-syncs_of (job.Once _) = exactly (once_syncs + 1)
-syncs_of job.Show = exactly 1
-syncs_of (job.Make _ _) = exactly (make_syncs + 1)
-syncs_of (job.Demo _ _ _ _) = of_begin
+abbrev pub job_syncs : Job → Syncs
+job_syncs (job.Start _) = of_begin
+job_syncs (job.Go _ _) = of_run
+job_syncs (job.Resume _) = of_run
+job_syncs (job.Once _) = exactly (once_syncs + 1)
+job_syncs job.Show = exactly 1
+job_syncs (job.Make _ _) = exactly (make_syncs + 1)
+job_syncs (job.Demo _ _ _ _) = of_begin
 
--- How often a run syncs that ends so, before and behind: the first sync alone where it can't be done, and, where that is said, at
+-- How often a command syncs that ends so, before and behind: the first sync alone where it can't be done, and, where that is said, at
 -- most all where the device failed or memory is wanting.
-abbrev pub SyncsRun : Syncs → Result (Unit {0}) Refusal → ℕ → ℕ → Type 0
-SyncsRun (exactly syncs) (Ok _) before behind = behind ≡ before + syncs
-SyncsRun (exactly syncs) (Err refusal.Device) before behind = behind ≤ before + syncs
-SyncsRun (exactly syncs) (Err refusal.NoMemory) before behind = behind ≤ before + syncs
-SyncsRun (exactly syncs) (Err why) before behind = behind ≡ before + 1
-SyncsRun of_begin (Ok _) before behind = before + 1 ≤ behind
-SyncsRun of_begin (Err refusal.Device) before behind = ⊤
-SyncsRun of_begin (Err refusal.NoMemory) before behind = ⊤
-SyncsRun of_begin (Err why) before behind = behind ≡ before + 1
-SyncsRun of_run (Ok _) before behind = before + 1 ≤ behind
-SyncsRun of_run (Err refusal.Device) before behind = ⊤
-SyncsRun of_run (Err refusal.NoMemory) before behind = ⊤
-SyncsRun of_run (Err (refusal.LegOpen _ _)) before behind = before + 1 ≤ behind
-SyncsRun of_run (Err (refusal.TickLimit _)) before behind = before + 1 ≤ behind
-SyncsRun of_run (Err (refusal.Damaged page)) before behind = page.file ≡ journal_file → behind ≡ before + 1
-SyncsRun of_run (Err why) before behind = behind ≡ before + 1
+abbrev pub SyncsJob : Syncs → Result (Unit {0}) Refusal → ℕ → ℕ → Type 0
+SyncsJob (exactly syncs) (Ok _) before behind = behind ≡ before + syncs
+SyncsJob (exactly syncs) (Err refusal.Device) before behind = behind ≤ before + syncs
+SyncsJob (exactly syncs) (Err refusal.NoMemory) before behind = behind ≤ before + syncs
+SyncsJob (exactly syncs) (Err why) before behind = behind ≡ before + 1
+SyncsJob of_begin (Ok _) before behind = before + 1 ≤ behind
+SyncsJob of_begin (Err refusal.Device) before behind = ⊤
+SyncsJob of_begin (Err refusal.NoMemory) before behind = ⊤
+SyncsJob of_begin (Err why) before behind = behind ≡ before + 1
+SyncsJob of_run (Ok _) before behind = before + 1 ≤ behind
+SyncsJob of_run (Err refusal.Device) before behind = ⊤
+SyncsJob of_run (Err refusal.NoMemory) before behind = ⊤
+SyncsJob of_run (Err (refusal.LegOpen _ _)) before behind = before + 1 ≤ behind
+SyncsJob of_run (Err (refusal.TickLimit _)) before behind = before + 1 ≤ behind
+SyncsJob of_run (Err (refusal.Damaged page)) before behind = page.file ≡ journal_file → behind ≡ before + 1
+SyncsJob of_run (Err why) before behind = behind ≡ before + 1
 
--- What a run owes to the counts. Device stands for a fault: it comes where the run came to an end at one, and every other
+-- What a command owes to the counts. Device stands for a fault: it comes where the command came to an end at one, and every other
 -- answer where there was none. No say on Err was refused, and where it is done none at all.
-pub record CountsRun {H : Type 0} (m : HostModel H) (all : Syncs) (old new : H) (result : Result (Unit {0}) Refusal) : Type 0 where
+pub record CountsJob {H : Type 0} (m : HostModel H) (all : Syncs) (old new : H) (result : Result (Unit {0}) Refusal) : Type 0 where
   pub count : m.faults old ≤ m.faults new
-  pub rose : result ≡ Err refusal.Device → Stopped m old new
+  pub rose : result ≡ Err refusal.Device → HaltedAtFault m old new
   pub spared : result ≢ Err refusal.Device → m.faults new ≡ m.faults old
   pub refused : IsTrue m.tells
       → (m.tally new).refused_says channels.Err ≡ (m.tally old).refused_says channels.Err
   pub heard : IsTrue m.tells → IsOk result
       → (m.tally new).refused_says channels.Out ≡ (m.tally old).refused_says channels.Out
-  pub syncs : IsTrue m.tells → SyncsRun all result (m.tally old).syncs (m.tally new).syncs
+  pub syncs : IsTrue m.tells → SyncsJob all result (m.tally old).syncs (m.tally new).syncs
 
 -- The same of the program: where the words are no command, or memory is wanting to read them, no call was made at all.
 abbrev pub CountsWords : {H : Type 0} → HostModel H → List (List ℕ) → H → H → Result (Unit {0}) Stop → Type 0
-CountsWords m words old new (Ok _) = (job : Job) × IsJob words job × CountsRun m (syncs_of job) old new (Ok tt)
+CountsWords m words old new (Ok _) = (job : Job) × IsJob words job × CountsJob m (job_syncs job) old new (Ok tt)
 CountsWords m words old new (Err stop.Words) = new ≡ old
 CountsWords m words old new (Err (stop.Refused why)) =
     ((why ≡ refusal.NoMemory) × (new ≡ old))
-    ⊎ ((job : Job) × IsJob words job × CountsRun m (syncs_of job) old new (Err why))
+    ⊎ ((job : Job) × IsJob words job × CountsJob m (job_syncs job) old new (Err why))
 
--- The run began with a sync: nothing was done before what reads was durable.
+-- The invocation began with a sync: nothing was done before what reads was durable.
 pub record HasBegun {H : Type 0} (m : HostModel H) (words : List (List ℕ)) (old new : H) : Type 0 where
   pub synced : H
   pub before : Leads m Stays old synced
   pub durable : IsDurable m synced
-  pub since : Leads m (RunTouches m.crashes.is_honest words (m.contents old).file) synced new
+  pub since : Leads m (CallTouches m.crashes.is_honest words (m.contents old).file) synced new
 
--- The same of a run of a command.
+-- The same of a command.
 pub record JobBegins {H : Type 0} (m : HostModel H) (job : Job) (old new : H) : Type 0 where
   pub synced : H
   pub before : Leads m Stays old synced
@@ -281,18 +281,18 @@ pub record HasDone {H : Type 0} (m : HostModel H) (words : List (List ℕ)) (old
   pub counts : CountsWords m words old new (Ok tt)
 
 -- the status, once its line was said on Err, or wasn't: a device fault, damage and want of memory stay what they are
-abbrev pub status_behind : Stop → Result (Unit {0}) HostError → ℕ
-status_behind why (Ok _) = stop_status why
-status_behind (stop.Refused refusal.Device) (Err _) = stop_status (stop.Refused refusal.Device)
-status_behind (stop.Refused (refusal.Damaged page)) (Err _) = stop_status (stop.Refused (refusal.Damaged page))
-status_behind (stop.Refused refusal.NoMemory) (Err _) = stop_status (stop.Refused refusal.NoMemory)
-status_behind why (Err error) = stop_status (stop.Refused (of_host error))
+abbrev pub status_after : Stop → Result (Unit {0}) HostError → ℕ
+status_after why (Ok _) = stop_status why
+status_after (stop.Refused refusal.Device) (Err _) = stop_status (stop.Refused refusal.Device)
+status_after (stop.Refused (refusal.Damaged page)) (Err _) = stop_status (stop.Refused (refusal.Damaged page))
+status_after (stop.Refused refusal.NoMemory) (Err _) = stop_status (stop.Refused refusal.NoMemory)
+status_after why (Err error) = stop_status (stop.Refused (of_host error))
 
 -- A refusal was told: its line was said on Err, by one call, and this is the status.
 pub record WasReported {H : Type 0} (m : HostModel H) (why : Stop) (old new : H) (status : ℕ) : Type 0 where
   pub answer : Result (Unit {0}) HostError
-  pub spoke : Spoke m channels.Err (stop_line why) old new answer
-  pub status_is : status ≡ status_behind why answer
+  pub spoke : RanSaying m channels.Err (stop_line why) old new answer
+  pub status_is : status ≡ status_after why answer
 
 -- Where `go` refuses a leg, each snapshot that is due is finished.
 abbrev pub BringsUp : {H : Type 0} → HostModel H → Job → H → H → Refusal → Type 0
@@ -304,12 +304,12 @@ abbrev pub BringsUpWords : {H : Type 0} → HostModel H → List (List ℕ) → 
 BringsUpWords m words old new why = (job : Job) (refusal : Refusal) → IsJob words job → why ≡ stop.Refused refusal
     → BringsUp m job old new refusal
 
--- The program was refused so: the run ended for a cause, or with a device fault or want of memory, and where `go` refused a leg,
+-- The program was refused so: it ended for a cause, or with a device fault or want of memory, and where `go` refused a leg,
 -- each snapshot that is due is finished; and then nothing was done but that this was told.
 pub record WasRefused {H : Type 0} (m : HostModel H) (words : List (List ℕ)) (old new : H) (status : ℕ) : Type 0 where
   pub why : Stop
   pub ended : H
-  pub cause : IsTrue m.tells → HasCause words (m.contents old).file why ⊎ HasSpoilt words (m.contents old).file why ⊎ IsWithoutCause why
+  pub cause : IsTrue m.tells → HasCause words (m.contents old).file why ⊎ HasDamage words (m.contents old).file why ⊎ IsWithoutCause why
   pub run : HasBegunOrNot m words old ended why
   pub brought : BringsUpWords m words old ended why
   pub counts : CountsWords m words old ended (Err why)

@@ -21,17 +21,17 @@ use Rattle.nb_engine.specs.Represents.{RepresentsRun}
 use Rattle.nb_engine.specs.declared.going.Done.{Done}
 use Rattle.nb_engine.specs.Sessions.{aimed_at, IsLed, GoLeads}
 use Rattle.nb_engine.specs.Start.{started, StartLeads}
-use Rattle.nb_engine.specs.Steps.{SaidPrefixOf, lines_behind, played}
+use Rattle.nb_engine.specs.Steps.{SaidPrefixOf, lines_after, played}
 use Rattle.nb_cli.specs.Once.{list_at}
-use Rattle.nb_cli.specs.Make.{made_start, CanMake, IsThere, IsMadeFrom, IsMaking, HasMade}
+use Rattle.nb_cli.specs.Make.{made_start, IsMakeReady, IsMakeRefused, IsMadeFrom, IsMaking, HasMade}
 use Rattle.nb_cli.specs.Telling.{IsStartDone, IsGoDone, IsDoneThenSaid, LeadsThenSays, SaysPrefix}
 
 -- ---- when it can be done
 
 -- `demo` can be done: no run is started, neither of the two files holds anything, and the target isn't too far away.
-pub record CanDemo (files : ℕ → List ℕ) (target : ℕ) : Type 0 where
+pub record IsDemoReady (files : ℕ → List ℕ) (target : ℕ) : Type 0 where
   pub fresh : IsFresh (files journal_file)
-  pub can : CanMake files
+  pub can : IsMakeReady files
   pub few : target ≤ most_ticks
 
 -- The first cause, in this order, for which it can't be: a run is started; the journal is damaged; one of the two files holds
@@ -40,8 +40,8 @@ abbrev pub IsDemoRefused : (ℕ → List ℕ) → ℕ → Refusal → Type 0
 IsDemoRefused files target why =
     ((why ≡ refusal.Started) × ((log : Log) × IsJournal log (files journal_file)))
     ⊎ ((offset : ℕ) × (why ≡ damaged_journal offset) × IsDamagedAt offset (files journal_file))
-    ⊎ (IsFresh (files journal_file) × IsThere files why)
-    ⊎ (IsFresh (files journal_file) × CanMake files × (most_ticks < target) × (why ≡ refusal.TickLimit target))
+    ⊎ (IsFresh (files journal_file) × IsMakeRefused files why)
+    ⊎ (IsFresh (files journal_file) × IsMakeReady files × (most_ticks < target) × (why ≡ refusal.TickLimit target))
 
 -- a refusal that `demo` gives, whatever the host tells
 abbrev pub IsOfDemo : Refusal → Type 0
@@ -77,7 +77,7 @@ summary_line seed count target =
 abbrev pub demo_text : ℕ → ℕ → ℕ → List ℕ
 demo_text seed count target =
     started_line count 0
-    ++ lines_behind (run_of (demo_history seed count target)) 0 target
+    ++ lines_after (run_of (demo_history seed count target)) 0 target
     ++ done_line target target (escaped_count (demo_list seed count target))
     ++ summary_line seed count target
 
@@ -107,7 +107,7 @@ pub record IsDemoLed (seed count target : ℕ) (new : Image) : Type 0 where
 -- `demo` is done: it did what `make`, `start` and `go` do, with their lines but that of `make`, and said the last line. So the two
 -- files are those that are made, and the folder represents the run at the target.
 pub record IsDemoDone (honest : Bool) (seed count target : ℕ) (old new : Image) : Type 0 where
-  pub can : CanDemo old.file target
+  pub can : IsDemoReady old.file target
   pub does : MakesThen seed count
       (DoesThen (StartLeads honest) IsStartDone
       (DoesThen (GoLeads honest target) (IsGoDone target)
@@ -132,7 +132,7 @@ StartsOn honest seed count target old new =
 
 -- Of an honest host what was said is a front of the text.
 pub record IsDemoPartlyDone (honest : Bool) (seed count target : ℕ) (old new : Image) : Type 0 where
-  pub can : CanDemo old.file target
+  pub can : IsDemoReady old.file target
   pub does : IsMaking seed count old new ⊎ MakesThen seed count (StartsOn honest seed count target) old new
   pub out : IsTrue honest → SaidPrefixOf (demo_text seed count target) (old.said channels.Out) (new.said channels.Out)
 
@@ -144,13 +144,13 @@ pub record DemoLeads (honest : Bool) (seed count target : ℕ) (old new : Image)
 -- ---- over hosts that don't return what was written
 
 -- the place of a refusal of a snapshot: a body, or 0 for the header
-abbrev pub place_of : SnapError → ℕ
-place_of (snap.IdOrder index) = index
-place_of (snap.Mass index) = index
-place_of (snap.Flag index) = index
-place_of (snap.Place index) = index
-place_of (snap.Speed index) = index
-place_of _ = 0
+abbrev pub index_of_flaw : SnapError → ℕ
+index_of_flaw (snap.IdOrder index) = index
+index_of_flaw (snap.Mass index) = index
+index_of_flaw (snap.Flag index) = index
+index_of_flaw (snap.Place index) = index
+index_of_flaw (snap.Speed index) = index
+index_of_flaw _ = 0
 
 -- why a snapshot can't be read back, at this body, or at its header where that is 0
 abbrev pub of_reading_back : SnapError → ℕ → ℕ → Refusal
@@ -160,23 +160,23 @@ of_reading_back error file index = refusal.Damaged (record { file = file; page =
 
 -- What a refusal of `start` is to a command that has just made what it starts from: neither file reads as it was written, or the
 -- journal doesn't read as it was found.
-abbrev pub start_behind_make : Refusal → Refusal
-start_behind_make (refusal.Params error) = refusal.Damaged (record { file = params_file; page = 0 })
-start_behind_make (refusal.Snapshot error) = refusal.Damaged (record { file = init_file; page = place_of error })
-start_behind_make (refusal.TooHeavy grav mass) = refusal.Damaged (record { file = init_file; page = 0 })
-start_behind_make refusal.Started = damaged_journal 0
-start_behind_make why = why
+abbrev pub start_after_make : Refusal → Refusal
+start_after_make (refusal.Params error) = refusal.Damaged (record { file = params_file; page = 0 })
+start_after_make (refusal.Snapshot error) = refusal.Damaged (record { file = init_file; page = index_of_flaw error })
+start_after_make (refusal.TooHeavy grav mass) = refusal.Damaged (record { file = init_file; page = 0 })
+start_after_make refusal.Started = damaged_journal 0
+start_after_make why = why
 
 -- What a refusal of `go` is to a command that has just started the run: the journal doesn't read as it was written.
-abbrev pub go_behind_start : Refusal → Refusal
-go_behind_start refusal.NotStarted = damaged_journal 0
-go_behind_start (refusal.LegOpen target time) = damaged_journal 0
-go_behind_start (refusal.TickLimit ticks) = damaged_journal 0
-go_behind_start why = why
+abbrev pub go_after_start : Refusal → Refusal
+go_after_start refusal.NotStarted = damaged_journal 0
+go_after_start (refusal.LegOpen target time) = damaged_journal 0
+go_after_start (refusal.TickLimit ticks) = damaged_journal 0
+go_after_start why = why
 
 -- A file doesn't read as it was written: over a host that tells it isn't so.
 pub record IsUnlike {H : Type 0} (m : HostModel H) (file : ℕ) (Written : Type 0) (why : Refusal) : Type 0 where
   pub page : PageName
-  pub shown : why ≡ refusal.Damaged page
+  pub named : why ≡ refusal.Damaged page
   pub file_is : page.file ≡ file
   pub cause : IsTrue m.tells → Written → ⊥

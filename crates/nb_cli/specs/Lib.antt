@@ -7,6 +7,6 @@ pub mod Make
 pub mod Generator
 pub mod Telling
 pub mod Demo
-pub mod Done
+pub mod OnceAnswer
 pub mod Answer
 pub mod Worlds

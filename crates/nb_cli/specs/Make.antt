@@ -19,13 +19,13 @@ use Rattle.nb_engine.specs.Steps.{SaidPrefixOf}
 -- ---- what is made
 
 -- the state of the generator, SplitMix64 (Steele, Lea and Flood 2014), behind so many words; at first it is the seed
-abbrev pub state_behind : ℕ → ℕ → ℕ
-state_behind seed zero = seed
-state_behind seed (suc n) = (mix_u64 (state_behind seed n)).1
+abbrev pub generator_state : ℕ → ℕ → ℕ
+generator_state seed zero = seed
+generator_state seed (suc n) = (mix_u64 (generator_state seed n)).1
 
 -- the word of this number, of 64 bits, counted from 0
 abbrev pub word_at : ℕ → ℕ → ℕ
-word_at seed n = (mix_u64 (state_behind seed n)).0
+word_at seed n = (mix_u64 (generator_state seed n)).0
 
 -- A body takes so many words.
 abbrev pub words_a_body : ℕ
@@ -91,14 +91,14 @@ pub record HasMade (seed count : ℕ) (files : ℕ → List ℕ) : Type 0 where
 -- ---- when it can be done
 
 -- `make` can be done: neither file is there, or they are empty.
-pub record CanMake (files : ℕ → List ℕ) : Type 0 where
+pub record IsMakeReady (files : ℕ → List ℕ) : Type 0 where
   pub params : files params_file ≡ []
   pub init : files init_file ≡ []
 
 -- Why it can't be: one of them holds something.
-pub record IsThere (files : ℕ → List ℕ) (why : Refusal) : Type 0 where
+pub record IsMakeRefused (files : ℕ → List ℕ) (why : Refusal) : Type 0 where
   pub some : (files params_file ≢ []) ⊎ (files init_file ≢ [])
-  pub shown : why ≡ refusal.InitThere
+  pub named : why ≡ refusal.InitThere
 
 -- a refusal that `make` gives, whatever the host tells
 abbrev pub IsOfMake : Refusal → Type 0
@@ -111,7 +111,7 @@ IsOfMake _ = ⊥
 
 -- The two files were made, and nothing else changed.
 pub record IsMadeFrom (seed count : ℕ) (old new : Image) : Type 0 where
-  pub can : CanMake old.file
+  pub can : IsMakeReady old.file
   pub made : HasMade seed count new.file
   pub others : AgreesOutside (params_file ∷ init_file ∷ []) old new
 
@@ -121,14 +121,14 @@ ParamsComeFirst count files = (files init_file ≡ []) ⊎ (files params_file �
 
 -- The two files may be in part, and nothing else changed. The snapshot is unfinished, or both are whole.
 pub record IsPartlyMade (seed count : ℕ) (old new : Image) : Type 0 where
-  pub can : CanMake old.file
+  pub can : IsMakeReady old.file
   pub first : ParamsComeFirst count new.file
   pub whole : IsUnfinished (new.file init_file) ⊎ HasMade seed count new.file
   pub others : AgreesOutside (params_file ∷ init_file ∷ []) old new
 
 -- The same, whatever was said on Err.
 pub record IsMaking (seed count : ℕ) (old new : Image) : Type 0 where
-  pub can : CanMake old.file
+  pub can : IsMakeReady old.file
   pub first : ParamsComeFirst count new.file
   pub whole : IsUnfinished (new.file init_file) ⊎ HasMade seed count new.file
   pub others : (number : ℕ) → number ≢ params_file → number ≢ init_file → new.file number ≡ old.file number
@@ -146,7 +146,7 @@ make_syncs = 5
 
 -- `make` is done: the two files were made, its line was said, and nothing else changed.
 pub record IsMakeDone (seed count : ℕ) (old new : Image) : Type 0 where
-  pub can : CanMake old.file
+  pub can : IsMakeReady old.file
   pub made : HasMade seed count new.file
   pub others : (number : ℕ) → number ≢ params_file → number ≢ init_file → new.file number ≡ old.file number
   pub out : new.said channels.Out ≡ old.said channels.Out ++ made_line count
@@ -155,7 +155,7 @@ pub record IsMakeDone (seed count : ℕ) (old new : Image) : Type 0 where
 -- What the command may have changed at some moment, done or not: the two files, and a front of its line on Out, of which
 -- nothing is said before both are whole.
 pub record IsMakePartlyDone (seed count : ℕ) (old new : Image) : Type 0 where
-  pub can : CanMake old.file
+  pub can : IsMakeReady old.file
   pub first : ParamsComeFirst count new.file
   pub whole : IsUnfinished (new.file init_file) ⊎ HasMade seed count new.file
   pub others : (number : ℕ) → number ≢ params_file → number ≢ init_file → new.file number ≡ old.file number

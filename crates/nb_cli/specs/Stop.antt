@@ -53,12 +53,12 @@ abbrev pub IsWithoutCause : Stop → Type 0
 IsWithoutCause why = (why ≡ stop.Refused refusal.Device) ⊎ (why ≡ stop.Refused refusal.NoMemory)
 
 -- a refusal that a command gives, and that has a line
-abbrev pub IsGiven : Refusal → Type 0
-IsGiven (refusal.Params error) = NamesParameter error
-IsGiven (refusal.Snapshot error) = IsBySnapshot error
-IsGiven _ = ⊤
+abbrev pub HasRefusalLine : Refusal → Type 0
+HasRefusalLine (refusal.Params error) = NamesParameter error
+HasRefusalLine (refusal.Snapshot error) = IsBySnapshot error
+HasRefusalLine _ = ⊤
 
 -- one that the program ends with
 abbrev pub IsSayable : Stop → Type 0
 IsSayable stop.Words = ⊤
-IsSayable (stop.Refused why) = IsGiven why
+IsSayable (stop.Refused why) = HasRefusalLine why

@@ -8,7 +8,7 @@ use Rattle.nb_journal.specs.Offsets.{journal_file}
 use Rattle.nb_engine.specs.declared.going.Done.{Done}
 use Rattle.nb_engine.specs.Histories.{History, IsHistory}
 use Rattle.nb_engine.specs.Represents.{RepresentsRun}
-use Rattle.nb_engine.specs.Sessions.{ticks_left, aimed_at, ticks_to, IsLed, CanGo, CanResume}
+use Rattle.nb_engine.specs.Sessions.{ticks_left, aimed_at, ticks_to, IsLed, IsGoReady, IsResumeReady}
 use Rattle.nb_engine.specs.Start.{Start, IsStartReady, RepresentsStart}
 use Rattle.nb_engine.specs.Steps.{SaidPrefixOf}
 
@@ -32,7 +32,7 @@ pub record IsGoDone (target : ℕ) (old new : Image) (line : List ℕ) : Type 0 
   pub done : Done
   pub fits : IsInWords done
   pub there : done.time ≡ target
-  pub could : CanGo target old.file
+  pub could : IsGoReady target old.file
   pub led : (h : History) → IsHistory h → RepresentsRun h old → IsLed (ticks_to target h) (aimed_at target h) old done new
   pub line_is : line ≡ done_line done.time done.ticks done.gone
 
@@ -41,7 +41,7 @@ pub record IsResumeDone (old new : Image) (line : List ℕ) : Type 0 where
   pub done : Done
   pub fits : IsInWords done
   pub there : (log : Log) → IsJournal log (old.file journal_file) → done.time ≡ (progress_of log).target
-  pub could : CanResume old.file
+  pub could : IsResumeReady old.file
   pub led : (h : History) → IsHistory h → RepresentsRun h old → IsLed (ticks_left (progress_of h.log)) h old done new
   pub line_is : line ≡ done_line done.time done.ticks done.gone
 

@@ -12,18 +12,18 @@ use Rattle.nb_cli.specs.declared.words.Job.TheVariants as job
 -- ---- what one word is
 
 -- the two options
-pub data Setting : Type 0 where
-  of_pages : Setting
-  of_walks : Setting
+pub data OptionName : Type 0 where
+  of_pages : OptionName
+  of_walks : OptionName
 
 -- What a word behind the command is, from the left.
 pub data Kind : Type 0 where
   -- `--`: each word behind it is an argument
   ends_options : Kind
   -- an option whose value is the next word, whatever that is
-  apart : Setting → Kind
+  apart : OptionName → Kind
   -- an option with its value, this one, in one word
-  attached : Setting → List ℕ → Kind
+  attached : OptionName → List ℕ → Kind
   -- another word that begins with `-`
   unknown : Kind
   -- any other word
@@ -58,7 +58,7 @@ no_numbers = record { arguments = []; pages = []; walks = [] }
 abbrev pub with_argument : ℕ → Numbers → Numbers
 with_argument n numbers = record numbers { arguments = n ∷ numbers.arguments }
 
-abbrev pub with_value : Setting → ℕ → Numbers → Numbers
+abbrev pub with_value : OptionName → ℕ → Numbers → Numbers
 with_value of_pages n numbers = record numbers { pages = n ∷ numbers.pages }
 with_value of_walks n numbers = record numbers { walks = n ∷ numbers.walks }
 
@@ -72,7 +72,7 @@ arguments_of [] = Some no_numbers
 arguments_of (word ∷ words) = more_numbers with_argument word (arguments_of words)
 
 -- a word of this kind, before words of which it is known what they are as arguments, and what behind an option or none
-abbrev pub at_word : Kind → List ℕ → Option Numbers → (Option Setting → Option Numbers) → Option Numbers
+abbrev pub at_word : Kind → List ℕ → Option Numbers → (Option OptionName → Option Numbers) → Option Numbers
 at_word ends_options word arguments from = arguments
 at_word (apart setting) word arguments from = from (Some setting)
 at_word (attached setting value) word arguments from = more_numbers (with_value setting) value (from None)
@@ -80,7 +80,7 @@ at_word unknown word arguments from = None
 at_word argument word arguments from = more_numbers with_argument word (from None)
 
 -- the numbers of these words, taken from the left; where an option stands before them, the first of them is its value
-unfoldable pub numbers_from : Option Setting → List (List ℕ) → Option Numbers
+unfoldable pub numbers_from : Option OptionName → List (List ℕ) → Option Numbers
 numbers_from None [] = Some no_numbers
 numbers_from (Some setting) [] = None
 numbers_from (Some setting) (word ∷ words) = more_numbers (with_value setting) word (numbers_from None words)

@@ -1,4 +1,4 @@
--- What sessions do to a folder, one after the other, whatever becomes of each: what it holds, with all that was told on standard
+-- What invocations do to a folder, one after the other, whatever becomes of each: what it holds, with all that was told on standard
 -- output since no run was started, is an image.
 use Rattle.std.specs.Prelude.{◌≡◌, ◌≢◌, ◌⊎◌, ⊤, ℕ, ◌<◌, ◌≤◌, List, [], ◌∷◌, ◌++◌, length, Contains}
 use Rattle.nb_host.specs.declared.host.Channel.TheVariants as channels
@@ -9,15 +9,15 @@ use Rattle.nb_format.specs.Snapshot.{IsFinishedSnapshot}
 use Rattle.nb_journal.specs.Form.{IsFresh}
 use Rattle.nb_journal.specs.Offsets.{journal_file}
 use Rattle.nb_engine.specs.Acknowledged.{IsAcknowledgedUpTo}
-use Rattle.nb_engine.specs.Frame.{IsApart, EachImage}
+use Rattle.nb_engine.specs.Frame.{IsOutsideRun, EachImage}
 use Rattle.nb_engine.specs.Histories.{legs_in, History, ticks_of, IsHistory}
 use Rattle.nb_engine.specs.Represents.{snap_of, RepresentsRun, RepresentsHistory, IsSoundImage}
 use Rattle.nb_engine.specs.Start.{Start, IsStartReady, started}
 use Rattle.nb_cli.specs.declared.words.Job.{Job}
 use Rattle.nb_cli.specs.declared.words.Job.TheVariants as job
 use Rattle.nb_cli.specs.Answer.{Yields, IsUntouched}
-use Rattle.nb_cli.specs.Make.{made_start, HasMade, CanMake}
-use Rattle.nb_cli.specs.Demo.{CanDemo}
+use Rattle.nb_cli.specs.Make.{made_start, HasMade, IsMakeReady}
+use Rattle.nb_cli.specs.Demo.{IsDemoReady}
 use Rattle.nb_cli.specs.Once.{once_file}
 
 -- ---- a run that goes on
@@ -36,7 +36,7 @@ abbrev pub KeepsSnapshots : History → Image → Image → Type 0
 KeepsSnapshots h old new = (j : ℕ) → j ≤ ticks_of h → IsFinishedSnapshot (length h.bodies) (old.file (snap_of j))
     → new.file (snap_of j) ≡ old.file (snap_of j)
 
--- ---- one session
+-- ---- one invocation
 
 -- Only `go` and `resume` take ticks of a run that is there: `demo` takes those of its own.
 abbrev pub TakesTicks : Job → Type 0
@@ -70,7 +70,7 @@ pub record StartsRun (old new : Image) : Type 0 where
 -- The run of the bodies that `demo` makes was started, where neither of the two files held anything. It has no leg, or the one
 -- that was asked for, and any number of its ticks.
 pub record StartsDemo (seed count target : ℕ) (old new : Image) : Type 0 where
-  pub can : CanDemo old.file target
+  pub can : IsDemoReady old.file target
   pub made : HasMade seed count new.file
   pub legs : List ℕ
   pub asked : (legs ≡ []) ⊎ (legs ≡ target ∷ [])
@@ -92,14 +92,14 @@ start_files = journal_file ∷ 3 ∷ 5 ∷ []
 -- A command leaves this file alone, whatever becomes of it.
 abbrev pub IsLeftAlone : Job → ℕ → Type 0
 IsLeftAlone (job.Start pages) number = Contains start_files number → ⊥
-IsLeftAlone (job.Go target pace) number = IsApart number
-IsLeftAlone (job.Resume pace) number = IsApart number
+IsLeftAlone (job.Go target pace) number = IsOutsideRun number
+IsLeftAlone (job.Resume pace) number = IsOutsideRun number
 IsLeftAlone job.Show number = ⊤
 IsLeftAlone (job.Once target) number = number ≢ once_file
 IsLeftAlone (job.Make seed count) number = 2 ≤ number
 IsLeftAlone (job.Demo seed count target pace) number = (8 ≤ number) × (number < 16)
 
--- The folder extends what it was by a session of this command.
+-- The folder extends what it was by an invocation of this command.
 pub record Extends (job : Job) (old new : Image) : Type 0 where
   -- a run that is there goes on, and what is finished of it stays
   pub goes : (h : History) → IsHistory h → RepresentsRun h old → GoesFurther job h old new
@@ -108,11 +108,11 @@ pub record Extends (job : Job) (old new : Image) : Type 0 where
   -- files that a command has nothing to do with stay
   pub others : (number : ℕ) → IsLeftAlone job number → new.file number ≡ old.file number
   -- parameters and initial bodies are written only where there are neither
-  pub inputs : (CanMake old.file → ⊥) → (number : ℕ) → number ≤ 1 → new.file number ≡ old.file number
+  pub inputs : (IsMakeReady old.file → ⊥) → (number : ℕ) → number ≤ 1 → new.file number ≡ old.file number
   -- what was told stays told
   pub told : (more : List ℕ) × (new.said channels.Out ≡ old.said channels.Out ++ more)
 
--- Up to its first sync a session did nothing, and from there on each image, at every moment and within each call, extends what
+-- Up to its first sync an invocation did nothing, and from there on each image, at every moment and within each call, extends what
 -- read when it began.
 pub record ExtendsSince {H : Type 0} (m : HostModel H) (job : Job) (old new : H) : Type 0 where
   pub synced : H
@@ -124,24 +124,24 @@ pub record ExtendsSince {H : Type 0} (m : HostModel H) (job : Job) (old new : H)
 abbrev pub ExtendsOrNot : {H : Type 0} → HostModel H → Job → H → H → ℕ → Type 0
 ExtendsOrNot m job old new status = (Leads m IsUntouched old new × Yields status) ⊎ ExtendsSince m job old new
 
--- ---- sessions, one after the other
+-- ---- invocations, one after the other
 
--- A session: its command, and the folder as it left it, done or refused, or as a crash left it, at any moment behind its first
--- sync. One that a crash ended before has done nothing, and isn't counted: what the crash left, an earlier session had left.
-pub record Session : Type 0 where
+-- An invocation: its command, and the folder as it left it, done or refused, or as a crash left it, at any moment behind its first
+-- sync. One that a crash ended before has done nothing, and isn't counted: what the crash left, an earlier invocation had left.
+pub record Invocation : Type 0 where
   pub job : Job
-  pub left : Image
+  pub after : Image
 
--- Each session left the folder sound, and extended what the one before it had left.
-abbrev pub AreSessions : Image → List Session → Type 0
-AreSessions first [] = ⊤
-AreSessions first (session ∷ sessions) =
-    IsSoundImage session.left × Extends session.job first session.left × AreSessions session.left sessions
+-- Each invocation left the folder sound, and extended what the one before it had left.
+abbrev pub AreInvocations : Image → List Invocation → Type 0
+AreInvocations first [] = ⊤
+AreInvocations first (invocation ∷ invocations) =
+    IsSoundImage invocation.after × Extends invocation.job first invocation.after × AreInvocations invocation.after invocations
 
 -- the folder as the last of them left it
-abbrev pub left_by : Image → List Session → Image
-left_by first [] = first
-left_by first (session ∷ sessions) = left_by session.left sessions
+abbrev pub image_after : Image → List Invocation → Image
+image_after first [] = first
+image_after first (invocation ∷ invocations) = image_after invocation.after invocations
 
 -- the target that a command asks for, where it is one that leads a run to a time
 abbrev pub asked_by : Job → List ℕ
@@ -150,9 +150,9 @@ asked_by (job.Demo seed count target pace) = target ∷ []
 asked_by _ = []
 
 -- those that were asked for, in order
-abbrev pub asked_for : List Session → List ℕ
+abbrev pub asked_for : List Invocation → List ℕ
 asked_for [] = []
-asked_for (session ∷ sessions) = asked_by session.job ++ asked_for sessions
+asked_for (invocation ∷ invocations) = asked_by invocation.job ++ asked_for invocations
 
 -- The numbers of one list stand in the other, in this order, perhaps with others between them.
 abbrev pub IsAmong : List ℕ → List ℕ → Type 0
@@ -165,7 +165,7 @@ pub record IsNew (image : Image) : Type 0 where
   pub fresh : IsFresh (image.file journal_file)
   pub untold : IsAcknowledgedUpTo 0 (image.said channels.Out)
 
--- What sessions leave of a run that one before them had left.
+-- What invocations leave of a run that one before them had left.
 pub record Lasts (h : History) (old new : Image) : Type 0 where
   pub legs : List ℕ
   pub later : History
@@ -174,22 +174,22 @@ pub record Lasts (h : History) (old new : Image) : Type 0 where
   pub is_later : IsLater legs h later
   pub kept : KeepsSnapshots h old new
 
--- What a session starts a run of, where these are the files: `start` of the two files, and `demo` of what it makes, where it can
+-- What an invocation starts a run of, where these are the files: `start` of the two files, and `demo` of what it makes, where it can
 -- be done.
 abbrev pub IsStartOf : Job → (ℕ → List ℕ) → Start → Type 0
 IsStartOf (job.Start pages) files start = IsStartReady files start
-IsStartOf (job.Demo seed count target pace) files start = CanDemo files target × (start ≡ made_start seed count)
+IsStartOf (job.Demo seed count target pace) files start = IsDemoReady files target × (start ≡ made_start seed count)
 IsStartOf _ files start = ⊥
 
--- One of the sessions started this run, where none was there.
-pub record WasStarted (first : Image) (sessions : List Session) (h : History) : Type 0 where
-  pub before : List Session
-  pub session : Session
-  pub behind : List Session
-  pub are : sessions ≡ before ++ session ∷ behind
-  pub fresh : IsFresh ((left_by first before).file journal_file)
+-- One of the invocations started this run, where none was there.
+pub record WasStarted (first : Image) (invocations : List Invocation) (h : History) : Type 0 where
+  pub before : List Invocation
+  pub invocation : Invocation
+  pub behind : List Invocation
+  pub are : invocations ≡ before ++ invocation ∷ behind
+  pub fresh : IsFresh ((image_after first before).file journal_file)
   pub start : Start
-  pub is : IsStartOf session.job (left_by first before).file start
+  pub is : IsStartOf invocation.job (image_after first before).file start
   pub params : h.log.params ≡ start.params
   pub bodies : h.bodies ≡ start.bodies
   pub begin : h.log.begin_time ≡ start.time

@@ -22,7 +22,7 @@ ghost use Rattle.nb_engine.specs.Start.{Start, HasStart, started, StartLeads};
 ghost use Rattle.nb_cli.specs.Once.{list_at};
 ghost use Rattle.nb_cli.specs.Make.{made_bodies, made_start, HasMade};
 ghost use Rattle.nb_cli.specs.Telling.{IsStartDone, IsGoDone, IsDoneThenSaid, LeadsWithoutErr, LeadsThenSays};
-ghost use Rattle.nb_cli.specs.Demo.{CanDemo, IsDemoRefused, IsOfDemo, demo_list, coordinate_sum, IsDemoDone, DemoLeads, of_reading_back, place_of as place_of_error, start_behind_make as start_refusal, go_behind_start as go_refusal, IsUnlike};
+ghost use Rattle.nb_cli.specs.Demo.{IsDemoReady, IsDemoRefused, IsOfDemo, demo_list, coordinate_sum, IsDemoDone, DemoLeads, of_reading_back, index_of_flaw as place_of_error, start_after_make as start_refusal, go_after_start as go_refusal, IsUnlike};
 
 use crate::generator::{Generator, made_params};
 use crate::make_command::{MADE_TIME, find_neither, make};
@@ -83,7 +83,7 @@ pub fn demo<H: Host>(
 /// Finds that no run is started, that neither file that is to be made holds anything, and that the target isn't
 /// too far away. It only reads.
 fn find_nothing<H: Host>(host: &mut H, target: u64) -> Result<(), Refusal>
-    ensures can { OnOk result (IsTrue H.meaning.tells → CanDemo (H.meaning.contents host.old).file target) }
+    ensures can { OnOk result (IsTrue H.meaning.tells → IsDemoReady (H.meaning.contents host.old).file target) }
     ensures few { OnOk result (target ≤ most_ticks) }
     ensures cause { IfErr result (λ why. IsTrue H.meaning.tells → NeedsNoCause why
         ⊎ IsDemoRefused (H.meaning.contents host.old).file target why) }
@@ -112,7 +112,7 @@ fn find_made<H: Host>(alloc: Global, host: &mut H, seed: u64, count: u64) -> Res
 {
     let params = match parameters(alloc, host) {
         Ok(params) => params,
-        Err(why) => return Err(start_behind_make(why)),
+        Err(why) => return Err(start_after_make(why)),
     };
     if params != made_params(count) {
         return Err(damaged(PARAMS_FILE, 0));
@@ -162,7 +162,7 @@ fn start_made<H: Host>(alloc: Global, host: &mut H, count: u64, pages: u64) -> R
 {
     let begun = match start(alloc, host, pages) {
         Ok(begun) => begun,
-        Err(why) => return Err(start_behind_make(why)),
+        Err(why) => return Err(start_after_make(why)),
     };
     if begun.count != count || begun.time != MADE_TIME {
         return Err(damaged(INIT_FILE, 0));
@@ -193,7 +193,7 @@ fn lead_made<H: Host>(alloc: Global, host: &mut H, target: u64, pace: Pace) -> R
 {
     let done = match go(alloc, host, pace, target) {
         Ok(done) => done,
-        Err(why) => return Err(go_behind_start(why)),
+        Err(why) => return Err(go_after_start(why)),
     };
     let line = done_line(done.time, done.ticks, done.gone);
     host.say(Channel::Out, line.bytes())?;
@@ -277,7 +277,7 @@ fn unread(error: SnapError, file: u64, index: u64) -> Refusal
 }
 
 /// The place of a refusal of a snapshot: a body, or 0 for the header.
-fn place_of(error: SnapError) -> u64
+fn index_of_flaw(error: SnapError) -> u64
     ensures { result ≡ place_of_error error }
 {
     match error {
@@ -291,12 +291,12 @@ fn place_of(error: SnapError) -> u64
 }
 
 /// What a refusal of `start` is where what it starts from was just made.
-fn start_behind_make(why: Refusal) -> Refusal
+fn start_after_make(why: Refusal) -> Refusal
     ensures { result ≡ start_refusal why }
 {
     match why {
         Refusal::Params(_) => damaged(PARAMS_FILE, 0),
-        Refusal::Snapshot(error) => damaged(INIT_FILE, place_of(error)),
+        Refusal::Snapshot(error) => damaged(INIT_FILE, index_of_flaw(error)),
         Refusal::TooHeavy(..) => damaged(INIT_FILE, 0),
         Refusal::Started => damaged(JOURNAL_FILE, 0),
         _ => why,
@@ -304,7 +304,7 @@ fn start_behind_make(why: Refusal) -> Refusal
 }
 
 /// What a refusal of `go` is where its run was just started.
-fn go_behind_start(why: Refusal) -> Refusal
+fn go_after_start(why: Refusal) -> Refusal
     ensures { result ≡ go_refusal why }
 {
     match why {

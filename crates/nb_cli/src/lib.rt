@@ -3,7 +3,7 @@
 //! `program` has the one call that does it all, from the words to the exit status (`status`). `words` reads the
 //! words, which `clap` splits. `once_command` does `once` over the snapshot that `init_file` reads,
 //! `make_command` and `demo_command` do `make` and `demo` over the bodies of `generator`, `show_command` has the
-//! text of `show`, and `stop` says why not. `worlds` has the laws of sessions.
+//! text of `show`, and `stop` says why not. `worlds` has the laws of invocations.
 #![tactic(auto)]
 
 mod demo_command;
@@ -20,7 +20,7 @@ mod worlds;
 
 pub use demo_command::demo;
 pub use make_command::make;
-pub use once_command::{Done, once};
+pub use once_command::once;
 pub use program::nbody;
 pub use stop::Stop;
 pub use words::{Job, WordsError, read_words};

@@ -11,8 +11,8 @@ ghost use Rattle.nb_format.specs.Images.{IsWritten};
 ghost use Rattle.nb_format.specs.Writer.{IsFinishedAs};
 ghost use Rattle.nb_engine.specs.Files.{params_file, init_file};
 ghost use Rattle.nb_engine.specs.Refusal.{NeedsNoCause};
-ghost use Rattle.nb_cli.specs.Done.{BecomesAny};
-ghost use Rattle.nb_cli.specs.Make.{made_bodies, CanMake, IsThere, IsOfMake, IsMadeFrom, MakeLeads, make_syncs};
+ghost use Rattle.nb_cli.specs.OnceAnswer.{BecomesAny};
+ghost use Rattle.nb_cli.specs.Make.{made_bodies, IsMakeReady, IsMakeRefused, IsOfMake, IsMadeFrom, MakeLeads, make_syncs};
 
 use crate::generator::{Generator, made_params};
 use nb_engine::{INIT_FILE, PARAMS_FILE, Refusal};
@@ -36,7 +36,7 @@ pub fn make<H: Host>(host: &mut H, seed: u64, count: u64) -> Result<(), Refusal>
     ensures done { OnOk result (IsTrue H.meaning.tells
         → IsMadeFrom seed count (H.meaning.contents host.old) (H.meaning.contents host.new)) }
     ensures cause { IfErr result (λ why. IsTrue H.meaning.tells
-        → NeedsNoCause why ⊎ IsThere (H.meaning.contents host.old).file why) }
+        → NeedsNoCause why ⊎ IsMakeRefused (H.meaning.contents host.old).file why) }
     ensures refusals { IfErr result IsOfMake }
 
     // What it leaves at each moment: all as it was, until it comes so far as to write.
@@ -54,9 +54,9 @@ pub fn make<H: Host>(host: &mut H, seed: u64, count: u64) -> Result<(), Refusal>
 
 /// Finds that neither of the two files holds anything. It only reads.
 pub(crate) fn find_neither<H: Host>(host: &mut H) -> Result<(), Refusal>
-    ensures neither { OnOk result (IsTrue H.meaning.tells → CanMake (H.meaning.contents host.old).file) }
+    ensures neither { OnOk result (IsTrue H.meaning.tells → IsMakeReady (H.meaning.contents host.old).file) }
     ensures cause { IfErr result (λ why. IsTrue H.meaning.tells
-        → NeedsNoCause why ⊎ IsThere (H.meaning.contents host.old).file why) }
+        → NeedsNoCause why ⊎ IsMakeRefused (H.meaning.contents host.old).file why) }
     ensures refusals { IfErr result IsOfMake }
     ensures ran { Ran H.meaning Refusal.Device Stays host.old host.new result }
 {

@@ -14,10 +14,10 @@ ghost use Rattle.nb_engine.specs.Refusal.{NeedsNoCause};
 ghost use Rattle.nb_engine.specs.Start.{Start, start_refusal as refusal_of_start};
 ghost use Rattle.nb_cli.specs.Once.{once_file, most_once_bodies, once_ticks, list_at, once_refusal as refusal_of_once, IsOnceReady, IsOfOnce, IsOnceRefused};
 ghost use Rattle.nb_cli.specs.Answer.{once_syncs};
-ghost use Rattle.nb_cli.specs.Done.{TellsOnce, BecomesAny, OnceLeads};
+ghost use Rattle.nb_cli.specs.OnceAnswer.{TellsOnce, BecomesAny, OnceLeads};
 
 use crate::init_file::read_bodies;
-use nb_engine::{INIT_FILE, Refusal, parameters, survey};
+use nb_engine::{Done, INIT_FILE, Refusal, parameters, survey};
 use nb_fixed::plain_tick;
 use nb_format::{Fresh, SnapReader};
 use nb_host::{Host, HostError};
@@ -29,17 +29,6 @@ const ONCE_FILE: u64 = 8;
 
 /// `once` takes at most so many bodies.
 const MOST_ONCE_BODIES: u64 = 4096;
-
-/// What `once` has done.
-#[derive(Clone, Copy, PartialEq, Eq, Debug)]
-pub struct Done {
-    /// The time of the snapshot that was written, in ticks.
-    pub time: u64,
-    /// How many ticks were taken.
-    pub ticks: u64,
-    /// How many bodies have left the box by that time.
-    pub gone: u64,
-}
 
 /// Brings the bodies of the initial snapshot to the time `target` and writes their snapshot. It says nothing.
 pub fn once<H: Host>(alloc: Global, host: &mut H, target: u64) -> Result<Done, Refusal>

@@ -12,8 +12,8 @@ ghost use Rattle.nb_cli.specs.declared.words.Job.TheVariants as job;
 ghost use Rattle.nb_engine.specs.declared.refusal.Refusal.TheVariants as refusal;
 ghost use Rattle.nb_cli.specs.Words.{IsJob, IsPaced, IsNoCommand};
 ghost use Rattle.nb_cli.specs.Worlds.{ExtendsOrNot};
-ghost use Rattle.nb_cli.specs.Stop.{IsGiven, IsSayable, IsWithoutCause};
-ghost use Rattle.nb_cli.specs.Answer.{statuses, Yields, ComesWhere, ComesByCause, HasCause, HasSpoilt, IsSpoiltBy, IsJobReady, IsJobRefused, IsJobSpoilt, IsJobDone, LeavesAll, Touches, CountsRun, CountsWords, syncs_of, HasBegun, HasBegunOrNot, JobBegins, JobBeginsOrNot, HasDone, BringsUp, BringsUpWords, WasReported, WasRefused};
+ghost use Rattle.nb_cli.specs.Stop.{HasRefusalLine, IsSayable, IsWithoutCause};
+ghost use Rattle.nb_cli.specs.Answer.{statuses, Yields, ComesWhere, ComesByCause, HasCause, HasDamage, IsDamagedBy, IsJobReady, IsJobRefused, IsJobDamaged, IsJobDone, LeavesAll, Touches, CountsJob, CountsWords, job_syncs, HasBegun, HasBegunOrNot, JobBegins, JobBeginsOrNot, HasDone, BringsUp, BringsUpWords, WasReported, WasRefused};
 
 use crate::demo_command::demo;
 use crate::make_command::make;
@@ -39,7 +39,7 @@ pub fn nbody<H: Host>(alloc: Global, words: &[&str], host: &mut H) -> u8
     ensures complete { (job : Job) → IsJob (map (λ w. w.now) words.now) job
         → IsTrue H.meaning.tells → IsJobReady (H.meaning.contents host.old).file job
         → (result ≡ 0) ⊎ Yields result
-        ⊎ IsSpoiltBy (map (λ w. w.now) words.now) (H.meaning.contents host.old).file result }
+        ⊎ IsDamagedBy (map (λ w. w.now) words.now) (H.meaning.contents host.old).file result }
 
     // What the command does, and what a refusal is and leaves.
     ensures done { result ≡ 0 → HasDone H.meaning (map (λ w. w.now) words.now) host.old host.new }
@@ -72,7 +72,7 @@ fn run<H: Host>(alloc: Global, words: &[&str], host: &mut H) -> Result<(), Stop>
         ⊎ (result ≡ Err (Stop.Refused refusal.NoMemory)) }
     ensures cause { IfErr result (λ why. IsTrue H.meaning.tells
         → HasCause (map (λ w. w.now) words.now) (H.meaning.contents host.old).file why
-        ⊎ HasSpoilt (map (λ w. w.now) words.now) (H.meaning.contents host.old).file why
+        ⊎ HasDamage (map (λ w. w.now) words.now) (H.meaning.contents host.old).file why
         ⊎ IsWithoutCause why) }
     ensures sayable { IfErr result IsSayable }
     ensures done { OnOk result (IsTrue H.meaning.tells
@@ -99,15 +99,15 @@ fn run_job<H: Host>(alloc: Global, host: &mut H, job: Job) -> Result<(), Refusal
     requires { IsPaced job }
     ensures cause { IfErr result (λ why. IsTrue H.meaning.tells → NeedsNoCause why
         ⊎ IsJobRefused (H.meaning.contents host.old).file job why
-        ⊎ IsJobSpoilt (H.meaning.contents host.old).file job why) }
-    ensures given { IfErr result IsGiven }
+        ⊎ IsJobDamaged (H.meaning.contents host.old).file job why) }
+    ensures given { IfErr result HasRefusalLine }
     ensures done { OnOk result (IsTrue H.meaning.tells → IsJobDone H.meaning.crashes.is_honest job
         (H.meaning.contents host.old) (H.meaning.contents host.new)) }
     ensures durable { OnOk result (IsDurable H.meaning host.new) }
     ensures begun { OnOk result (JobBegins H.meaning job host.old host.new) }
     ensures brought { IfErr result (BringsUp H.meaning job host.old host.new) }
     ensures run { IfErr result (JobBeginsOrNot H.meaning job host.old host.new) }
-    ensures counts { CountsRun H.meaning (syncs_of job) host.old host.new result }
+    ensures counts { CountsJob H.meaning (job_syncs job) host.old host.new result }
 {
     match job {
         Job::Start(pages) => run_start(alloc, host, pages),
@@ -125,14 +125,14 @@ fn run_start<H: Host>(alloc: Global, host: &mut H, pages: u64) -> Result<(), Ref
     requires { IsPaced (job.Start pages) }
     ensures cause { IfErr result (λ why. IsTrue H.meaning.tells → NeedsNoCause why
         ⊎ IsJobRefused (H.meaning.contents host.old).file (job.Start pages) why
-        ⊎ IsJobSpoilt (H.meaning.contents host.old).file (job.Start pages) why) }
-    ensures given { IfErr result IsGiven }
+        ⊎ IsJobDamaged (H.meaning.contents host.old).file (job.Start pages) why) }
+    ensures given { IfErr result HasRefusalLine }
     ensures done { OnOk result (IsTrue H.meaning.tells → IsJobDone H.meaning.crashes.is_honest (job.Start pages)
         (H.meaning.contents host.old) (H.meaning.contents host.new)) }
     ensures durable { OnOk result (IsDurable H.meaning host.new) }
     ensures begun { OnOk result (JobBegins H.meaning (job.Start pages) host.old host.new) }
     ensures run { IfErr result (JobBeginsOrNot H.meaning (job.Start pages) host.old host.new) }
-    ensures counts { CountsRun H.meaning (syncs_of (job.Start pages)) host.old host.new result }
+    ensures counts { CountsJob H.meaning (job_syncs (job.Start pages)) host.old host.new result }
 {
     host.sync()?;
     let begun = start(alloc, host, pages)?;
@@ -146,15 +146,15 @@ fn run_go<H: Host>(alloc: Global, host: &mut H, target: u64, pace: Pace) -> Resu
     requires { IsPaced (job.Go target pace) }
     ensures cause { IfErr result (λ why. IsTrue H.meaning.tells → NeedsNoCause why
         ⊎ IsJobRefused (H.meaning.contents host.old).file (job.Go target pace) why
-        ⊎ IsJobSpoilt (H.meaning.contents host.old).file (job.Go target pace) why) }
-    ensures given { IfErr result IsGiven }
+        ⊎ IsJobDamaged (H.meaning.contents host.old).file (job.Go target pace) why) }
+    ensures given { IfErr result HasRefusalLine }
     ensures done { OnOk result (IsTrue H.meaning.tells → IsJobDone H.meaning.crashes.is_honest (job.Go target pace)
         (H.meaning.contents host.old) (H.meaning.contents host.new)) }
     ensures durable { OnOk result (IsDurable H.meaning host.new) }
     ensures begun { OnOk result (JobBegins H.meaning (job.Go target pace) host.old host.new) }
     ensures brought { IfErr result (BringsUp H.meaning (job.Go target pace) host.old host.new) }
     ensures run { IfErr result (JobBeginsOrNot H.meaning (job.Go target pace) host.old host.new) }
-    ensures counts { CountsRun H.meaning (syncs_of (job.Go target pace)) host.old host.new result }
+    ensures counts { CountsJob H.meaning (job_syncs (job.Go target pace)) host.old host.new result }
 {
     host.sync()?;
     let done = go(alloc, host, pace, target)?;
@@ -168,14 +168,14 @@ fn run_resume<H: Host>(alloc: Global, host: &mut H, pace: Pace) -> Result<(), Re
     requires { IsPaced (job.Resume pace) }
     ensures cause { IfErr result (λ why. IsTrue H.meaning.tells → NeedsNoCause why
         ⊎ IsJobRefused (H.meaning.contents host.old).file (job.Resume pace) why
-        ⊎ IsJobSpoilt (H.meaning.contents host.old).file (job.Resume pace) why) }
-    ensures given { IfErr result IsGiven }
+        ⊎ IsJobDamaged (H.meaning.contents host.old).file (job.Resume pace) why) }
+    ensures given { IfErr result HasRefusalLine }
     ensures done { OnOk result (IsTrue H.meaning.tells → IsJobDone H.meaning.crashes.is_honest (job.Resume pace)
         (H.meaning.contents host.old) (H.meaning.contents host.new)) }
     ensures durable { OnOk result (IsDurable H.meaning host.new) }
     ensures begun { OnOk result (JobBegins H.meaning (job.Resume pace) host.old host.new) }
     ensures run { IfErr result (JobBeginsOrNot H.meaning (job.Resume pace) host.old host.new) }
-    ensures counts { CountsRun H.meaning (syncs_of (job.Resume pace)) host.old host.new result }
+    ensures counts { CountsJob H.meaning (job_syncs (job.Resume pace)) host.old host.new result }
 {
     host.sync()?;
     let done = resume(alloc, host, pace)?;
@@ -188,14 +188,14 @@ fn run_resume<H: Host>(alloc: Global, host: &mut H, pace: Pace) -> Result<(), Re
 fn run_once<H: Host>(alloc: Global, host: &mut H, target: u64) -> Result<(), Refusal>
     ensures cause { IfErr result (λ why. IsTrue H.meaning.tells → NeedsNoCause why
         ⊎ IsJobRefused (H.meaning.contents host.old).file (job.Once target) why
-        ⊎ IsJobSpoilt (H.meaning.contents host.old).file (job.Once target) why) }
-    ensures given { IfErr result IsGiven }
+        ⊎ IsJobDamaged (H.meaning.contents host.old).file (job.Once target) why) }
+    ensures given { IfErr result HasRefusalLine }
     ensures done { OnOk result (IsTrue H.meaning.tells → IsJobDone H.meaning.crashes.is_honest (job.Once target)
         (H.meaning.contents host.old) (H.meaning.contents host.new)) }
     ensures durable { OnOk result (IsDurable H.meaning host.new) }
     ensures begun { OnOk result (JobBegins H.meaning (job.Once target) host.old host.new) }
     ensures run { IfErr result (JobBeginsOrNot H.meaning (job.Once target) host.old host.new) }
-    ensures counts { CountsRun H.meaning (syncs_of (job.Once target)) host.old host.new result }
+    ensures counts { CountsJob H.meaning (job_syncs (job.Once target)) host.old host.new result }
 {
     host.sync()?;
     let done = once(alloc, host, target)?;
@@ -208,14 +208,14 @@ fn run_once<H: Host>(alloc: Global, host: &mut H, target: u64) -> Result<(), Ref
 fn run_show<H: Host>(alloc: Global, host: &mut H) -> Result<(), Refusal>
     ensures cause { IfErr result (λ why. IsTrue H.meaning.tells → NeedsNoCause why
         ⊎ IsJobRefused (H.meaning.contents host.old).file job.Show why
-        ⊎ IsJobSpoilt (H.meaning.contents host.old).file job.Show why) }
-    ensures given { IfErr result IsGiven }
+        ⊎ IsJobDamaged (H.meaning.contents host.old).file job.Show why) }
+    ensures given { IfErr result HasRefusalLine }
     ensures done { OnOk result (IsTrue H.meaning.tells → IsJobDone H.meaning.crashes.is_honest job.Show
         (H.meaning.contents host.old) (H.meaning.contents host.new)) }
     ensures durable { OnOk result (IsDurable H.meaning host.new) }
     ensures begun { OnOk result (JobBegins H.meaning job.Show host.old host.new) }
     ensures run { IfErr result (JobBeginsOrNot H.meaning job.Show host.old host.new) }
-    ensures counts { CountsRun H.meaning (syncs_of job.Show) host.old host.new result }
+    ensures counts { CountsJob H.meaning (job_syncs job.Show) host.old host.new result }
 {
     host.sync()?;
     let shown = show(host)?;
@@ -229,14 +229,14 @@ fn run_make<H: Host>(host: &mut H, seed: u64, count: u64) -> Result<(), Refusal>
     requires { IsPaced (job.Make seed count) }
     ensures cause { IfErr result (λ why. IsTrue H.meaning.tells → NeedsNoCause why
         ⊎ IsJobRefused (H.meaning.contents host.old).file (job.Make seed count) why
-        ⊎ IsJobSpoilt (H.meaning.contents host.old).file (job.Make seed count) why) }
-    ensures given { IfErr result IsGiven }
+        ⊎ IsJobDamaged (H.meaning.contents host.old).file (job.Make seed count) why) }
+    ensures given { IfErr result HasRefusalLine }
     ensures done { OnOk result (IsTrue H.meaning.tells → IsJobDone H.meaning.crashes.is_honest (job.Make seed count)
         (H.meaning.contents host.old) (H.meaning.contents host.new)) }
     ensures durable { OnOk result (IsDurable H.meaning host.new) }
     ensures begun { OnOk result (JobBegins H.meaning (job.Make seed count) host.old host.new) }
     ensures run { IfErr result (JobBeginsOrNot H.meaning (job.Make seed count) host.old host.new) }
-    ensures counts { CountsRun H.meaning (syncs_of (job.Make seed count)) host.old host.new result }
+    ensures counts { CountsJob H.meaning (job_syncs (job.Make seed count)) host.old host.new result }
 {
     host.sync()?;
     make(host, seed, count)?;
@@ -257,14 +257,14 @@ fn run_demo<H: Host>(
     requires { IsPaced (job.Demo seed count target pace) }
     ensures cause { IfErr result (λ why. IsTrue H.meaning.tells → NeedsNoCause why
         ⊎ IsJobRefused (H.meaning.contents host.old).file (job.Demo seed count target pace) why
-        ⊎ IsJobSpoilt (H.meaning.contents host.old).file (job.Demo seed count target pace) why) }
-    ensures given { IfErr result IsGiven }
+        ⊎ IsJobDamaged (H.meaning.contents host.old).file (job.Demo seed count target pace) why) }
+    ensures given { IfErr result HasRefusalLine }
     ensures done { OnOk result (IsTrue H.meaning.tells → IsJobDone H.meaning.crashes.is_honest (job.Demo seed count target pace)
         (H.meaning.contents host.old) (H.meaning.contents host.new)) }
     ensures durable { OnOk result (IsDurable H.meaning host.new) }
     ensures begun { OnOk result (JobBegins H.meaning (job.Demo seed count target pace) host.old host.new) }
     ensures run { IfErr result (JobBeginsOrNot H.meaning (job.Demo seed count target pace) host.old host.new) }
-    ensures counts { CountsRun H.meaning (syncs_of (job.Demo seed count target pace)) host.old host.new result }
+    ensures counts { CountsJob H.meaning (job_syncs (job.Demo seed count target pace)) host.old host.new result }
 {
     host.sync()?;
     demo(alloc, host, seed, count, target, pace)?;

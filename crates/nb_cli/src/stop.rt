@@ -1,7 +1,7 @@
 //! Why the program ends without being done.
 
 ghost use Rattle.std.specs.Prelude.{◌≡◌};
-ghost use Rattle.nb_cli.specs.Stop.{status_of, line_of_refusal, stop_status, stop_line, IsGiven, IsSayable};
+ghost use Rattle.nb_cli.specs.Stop.{status_of, line_of_refusal, stop_status, stop_line, HasRefusalLine, IsSayable};
 ghost use Rattle.nb_cli.specs.declared.stop.Stop.TheVariants as stop;
 
 use crate::status::{
@@ -68,7 +68,7 @@ fn refusal_status(refusal: &Refusal) -> u8
 
 /// The line of a refusal on Err.
 fn refusal_line(refusal: &Refusal) -> Text
-    requires { IsGiven refusal.now }
+    requires { HasRefusalLine refusal.now }
     ensures { result ≡ line_of_refusal refusal.now }
 {
     match refusal {

@@ -1,4 +1,4 @@
-//! The laws of sessions: of any list of them, and of the one that is three in one. Their functions do nothing: their
+//! The laws of invocations: of any list of them, and of the one that is three in one. Their functions do nothing: their
 //! contracts are the laws.
 
 ghost use Rattle.std.specs.Prelude.{◌≡◌, ◌≤◌, ℕ, true, List, length, ◌++◌};
@@ -8,11 +8,11 @@ ghost use Rattle.nb_host.specs.Image.{Image};
 ghost use Rattle.nb_engine.specs.Acknowledged.{Acknowledges};
 ghost use Rattle.nb_format.specs.Snapshot.{IsFinishedSnapshot};
 ghost use Rattle.nb_engine.specs.declared.going.Pace.{Pace};
-ghost use Rattle.nb_engine.specs.Histories.{legs_in, length_of, History, run_of, ticks_of, IsHistory};
+ghost use Rattle.nb_engine.specs.Histories.{legs_in, run_length, History, run_of, ticks_of, IsHistory};
 ghost use Rattle.nb_engine.specs.Represents.{snap_of, IsSnapshotOf, RepresentsRun, RepresentsHistory, IsSoundImage};
 ghost use Rattle.nb_cli.specs.declared.words.Job.TheVariants as job;
 ghost use Rattle.nb_cli.specs.Demo.{DemoLeads};
-ghost use Rattle.nb_cli.specs.Worlds.{Extends, Session, AreSessions, left_by, asked_for, IsAmong, IsNew, WasStarted, Lasts};
+ghost use Rattle.nb_cli.specs.Worlds.{Extends, Invocation, AreInvocations, image_after, asked_for, IsAmong, IsNew, WasStarted, Lasts};
 
 use nb_engine::law_acknowledged;
 
@@ -29,30 +29,30 @@ use nb_engine::law_acknowledged;
 /// - a tick that is done stays done, and each tick that was told on standard output is done;
 /// - a finished snapshot of a tick that is done stays, byte for byte, and is the definition's list.
 ///
-/// By `nbody`'s clauses `sound` and `extends` its sessions are such a list.
+/// By `nbody`'s clauses `sound` and `extends` its invocations are such a list.
 pub fn law_worlds()
     // What a folder holds is one run: no two histories are represented by one image.
     ensures one { (image : Image) (h other : History) → RepresentsRun h image → RepresentsRun other image
         → h ≡ other }
 
-    // Where it holds a run, one of the sessions started it, of the files as they were then.
-    ensures started { (first : Image) (sessions : List Session) (h : History) → IsNew first
-        → AreSessions first sessions → RepresentsRun h (left_by first sessions) → WasStarted first sessions h }
+    // Where it holds a run, one of the invocations started it, of the files as they were then.
+    ensures started { (first : Image) (invocations : List Invocation) (h : History) → IsNew first
+        → AreInvocations first invocations → RepresentsRun h (image_after first invocations) → WasStarted first invocations h }
 
-    // A run lasts: what some sessions left of it, all those behind them go on with.
-    ensures lasts { (first : Image) (before behind : List Session) (h : History) → IsNew first
-        → AreSessions first (before ++ behind) → RepresentsRun h (left_by first before)
-        → Lasts h (left_by first before) (left_by first (before ++ behind)) }
+    // A run lasts: what some invocations left of it, all those behind them go on with.
+    ensures lasts { (first : Image) (before behind : List Invocation) (h : History) → IsNew first
+        → AreInvocations first (before ++ behind) → RepresentsRun h (image_after first before)
+        → Lasts h (image_after first before) (image_after first (before ++ behind)) }
 
     // Its legs were asked for, and its ticks are the first of those that lead along them.
-    ensures asked { (first : Image) (sessions : List Session) (h : History) → IsNew first
-        → AreSessions first sessions → RepresentsRun h (left_by first sessions)
-        → IsAmong (legs_in h.log.entries) (asked_for sessions) × (ticks_of h ≤ length_of (run_of h)) }
+    ensures asked { (first : Image) (invocations : List Invocation) (h : History) → IsNew first
+        → AreInvocations first invocations → RepresentsRun h (image_after first invocations)
+        → IsAmong (legs_in h.log.entries) (asked_for invocations) × (ticks_of h ≤ run_length (run_of h)) }
 
     // A tick that was told is done.
-    ensures told { (first : Image) (sessions : List Session) (k : ℕ) → IsNew first → AreSessions first sessions
-        → Acknowledges ((left_by first sessions).said channels.Out) k → 1 ≤ k
-        → (h : History) × IsHistory h × RepresentsHistory h (left_by first sessions) × (k ≤ ticks_of h) }
+    ensures told { (first : Image) (invocations : List Invocation) (k : ℕ) → IsNew first → AreInvocations first invocations
+        → Acknowledges ((image_after first invocations).said channels.Out) k → 1 ≤ k
+        → (h : History) × IsHistory h × RepresentsHistory h (image_after first invocations) × (k ≤ ticks_of h) }
 
     // A finished snapshot of a tick that is done is the run's list after that tick, byte for byte.
     ensures snapshots { (image : Image) (h : History) (j : ℕ) → RepresentsRun h image → 1 ≤ j → j ≤ ticks_of h
@@ -60,11 +60,11 @@ pub fn law_worlds()
         → IsSnapshotOf (run_of h) j (image.file (snap_of j)) }
 
     // And the folder is sound.
-    ensures sound { (first : Image) (sessions : List Session) → IsNew first → AreSessions first sessions
-        → IsSoundImage (left_by first sessions) }
+    ensures sound { (first : Image) (invocations : List Invocation) → IsNew first → AreInvocations first invocations
+        → IsSoundImage (image_after first invocations) }
 {}
 
-/// What `demo` may do to a folder, at any moment, is what a session of it may, and the folder stays sound.
+/// What `demo` may do to a folder, at any moment, is what an invocation of it may, and the folder stays sound.
 pub fn law_demo()
     ensures sound { (seed count target : ℕ) (old new : Image) → count ≤ most_bodies → IsSoundImage old
         → DemoLeads true seed count target old new → IsSoundImage new }

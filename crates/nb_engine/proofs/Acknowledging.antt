@@ -9,15 +9,15 @@ use Rattle.nb_host.specs.Image.{Image}
 use Rattle.nb_model.specs.declared.body.Body.{Body}
 use Rattle.nb_model.specs.Leapfrog.{escaped_count}
 use Rattle.nb_model.specs.Legs.{directions}
-use Rattle.nb_model.specs.Limits.{most_bodies, most_ticks}
+use Rattle.nb_model.specs.Limits.{most_ticks}
 use Rattle.nb_format.specs.Lines.{tick_line}
 use Rattle.nb_journal.specs.declared.entry.Entry.{Entry}
 use Rattle.nb_journal.specs.declared.entry.Entry.TheVariants.{Leg, Tick}
 use Rattle.nb_journal.specs.Entries.{Progress, AreLawful, toward, progress_after, after_all}
-use Rattle.nb_journal.specs.Form.{Log, IsLawful, begun, progress_of}
+use Rattle.nb_journal.specs.Form.{Log, IsLawful, initial_progress, progress_of}
 use Rattle.nb_engine.specs.Acknowledged.{IsAcknowledgedUpTo}
-use Rattle.nb_engine.specs.Histories.{Run, state_of, time_of, History, run_of, ticks_of, IsHistory, next_tick}
-use Rattle.nb_engine.specs.Steps.{tick_line_of, lines_behind, SaidLinesOf, played, GoesOn}
+use Rattle.nb_engine.specs.Histories.{Run, state_at, time_at, History, run_of, ticks_of, IsHistory, next_tick}
+use Rattle.nb_engine.specs.Steps.{tick_line_of, lines_after, SaidLinesOf, played, GoesOn}
 use Rattle.nb_engine.proofs.DueNow.{lawful_before}
 use Rattle.nb_engine.proofs.Paths.{time-now}
 use Rattle.nb_engine.proofs.Played.{run-played, ticks-played}
@@ -53,7 +53,7 @@ small_after count s (Tick number gone ∷ entries) lawful small =
 
 pub small_log : (log : Log) → IsLawful log → IsSmall log.count (progress_of log)
 small_log log lawful =
-    small_after log.count (begun log) log.entries lawful.entries
+    small_after log.count (initial_progress log) log.entries lawful.entries
     (record { time = lawful.time; target = lawful.time; ticks = omega arith; gone = lawful.gone })
 
 -- ---- the lines of ticks
@@ -63,9 +63,9 @@ abbrev pub LineTellsOne : Type 0
 LineTellsOne = (k time gone n : ℕ) (said : List ℕ) → k < 2 ^ 64 → time < 2 ^ 64 → gone < 2 ^ 64
     → IsAcknowledgedUpTo k said → IsAcknowledgedUpTo k (said ++ take n (tick_line k time gone))
 
-few_gone : (h : History) (k : ℕ) → IsHistory h → IsLawful h.log → escaped_count (state_of (run_of h) k) < 2 ^ 64
+few_gone : (h : History) (k : ℕ) → IsHistory h → IsLawful h.log → escaped_count (state_at (run_of h) k) < 2 ^ 64
 few_gone h k is lawful =
-    let few = count_by-le-length (λ (b : Body). b.out) (state_of (run_of h) k) in
+    let few = count_by-le-length (λ (b : Body). b.out) (state_at (run_of h) k) in
     let many = length-steps h.log.params (take k (directions (run_of h).begin (run_of h).legs)) h.bodies in
     omega (arith, few, many, is.count, lawful.count)
 
@@ -78,21 +78,21 @@ told_next law n m h said is lawful after told =
     let run = run_of h in
     let k = suc (ticks_of h + n) in
     let number : ticks_of last ≡ k = omega (arith, ticks-played (suc n) h) in
-    let time : (progress_of last.log).time ≡ time_of run k =
-    time-now last after ∙ ap (λ (r : Run). time_of r (ticks_of last)) (run-played (suc n) h) ∙ ap (time_of run) number in
+    let time : (progress_of last.log).time ≡ time_at run k =
+    time-now last after ∙ ap (λ (r : Run). time_at r (ticks_of last)) (run-played (suc n) h) ∙ ap (time_at run) number in
     let small = small_log last.log after in
     subst (λ (j : ℕ). IsAcknowledgedUpTo j (said ++ take m (tick_line_of run k))) (sym number)
-    (law k (time_of run k) (escaped_count (state_of run k)) m said (omega (arith, number, small.ticks))
+    (law k (time_at run k) (escaped_count (state_at run k)) m said (omega (arith, number, small.ticks))
     (subst (λ (t : ℕ). t < 2 ^ 64) time small.time) (few_gone h k is lawful)
     (told_more (ticks_of (played n h)) k said (omega (arith, ticks-played n h)) told))
 
 -- the lines of so many ticks
 told_lines : LineTellsOne → (n : ℕ) (h : History) (old : List ℕ) → IsHistory h → IsLawful h.log → IsLawful (played n h).log
     → IsAcknowledgedUpTo (ticks_of h) old
-    → IsAcknowledgedUpTo (ticks_of (played n h)) (old ++ lines_behind (run_of h) (ticks_of h) n)
+    → IsAcknowledgedUpTo (ticks_of (played n h)) (old ++ lines_after (run_of h) (ticks_of h) n)
 told_lines law zero h old is lawful after told = subst (IsAcknowledgedUpTo (ticks_of h)) (sym (append-nil old)) told
 told_lines law (suc n) h old is lawful after told =
-    let lines = lines_behind (run_of h) (ticks_of h) n in
+    let lines = lines_after (run_of h) (ticks_of h) n in
     let line = tick_line_of (run_of h) (suc (ticks_of h + n)) in
     let before = lawful_before (played n h) (next_tick (played n h)) after in
     let next = told_next law n (length line) h (old ++ lines) is lawful after (told_lines law n h old is lawful before told) in
@@ -105,7 +105,7 @@ told_said : LineTellsOne → (n : ℕ) (h : History) (old new : List ℕ) → Is
     → IsAcknowledgedUpTo (ticks_of h) old → SaidLinesOf (run_of h) (ticks_of h) n old new → IsAcknowledgedUpTo (ticks_of (played n h)) new
 told_said law zero h old new is lawful after told said = subst (IsAcknowledgedUpTo (ticks_of h)) (sym said) told
 told_said law (suc n) h old new is lawful after told said =
-    let lines = lines_behind (run_of h) (ticks_of h) n in
+    let lines = lines_after (run_of h) (ticks_of h) n in
     let before = lawful_before (played n h) (next_tick (played n h)) after in
     subst (IsAcknowledgedUpTo (ticks_of (played (suc n) h))) (sym said.2)
     (told_next law n said.0 h (old ++ lines) is lawful after (told_lines law n h old is lawful before told))

@@ -130,22 +130,6 @@ parameters_of_start refusal.Device of_parameters = tt
 parameters_of_start refusal.NoMemory of_parameters = tt
 parameters_of_start _ of_parameters = absurd of_parameters
 
--- and so is what the snapshot is refused by
-pub snapshot_of_start : (error : SnapError) → IsOfStart (of_snapshot error)
-snapshot_of_start snap.Fault = tt
-snapshot_of_start snap.NoMemory = tt
-snapshot_of_start snap.Short = tt
-snapshot_of_start snap.Unfinished = tt
-snapshot_of_start snap.Magic = tt
-snapshot_of_start snap.Count = tt
-snapshot_of_start snap.Zeros = tt
-snapshot_of_start snap.Length = tt
-snapshot_of_start (snap.IdOrder i) = tt
-snapshot_of_start (snap.Mass i) = tt
-snapshot_of_start (snap.Flag i) = tt
-snapshot_of_start (snap.Place i) = tt
-snapshot_of_start (snap.Speed i) = tt
-
 -- ---- the mass
 
 pub too_heavy : {files : ℕ → List ℕ} (start : Start) {mass : ℕ} → IsFresh (files journal_file) → HasStart files start

@@ -3,10 +3,8 @@ use Rattle.std.proofs.Common.{◌≡◌, ℕ, List, take, map, sym, subst}
 use Rattle.std.specs.List.Sorted.{IsStrictlyIncreasing}
 use Rattle.std.proofs.lemmas.List.Sorted.{IsPermutation-sym}
 use Rattle.nb_model.specs.declared.body.Body.{Body}
-use Rattle.nb_model.specs.Legs.{directions}
 use Rattle.nb_record.specs.Order.{by_key, by_id, sorted_by, IsSortedByRank}
 use Rattle.nb_record.proofs.Callers.{permuted, sorted, only, different_ids, own_by_id}
-use Rattle.nb_engine.specs.Histories.{Run, state_of, IsRun}
 use Rattle.nb_engine.proofs.Steps.{steps_valid}
 -- a run, tick by tick
 pub use Rattle.nb_engine.proofs.Steps.{steps_append, steps_valid, escaped_count-step, escaped_count-steps, escaped_count-fewer, length-steps}
@@ -38,8 +36,3 @@ sorted_back bodies rises =
     let order = subst (IsSortedByRank by_id) own (sorted by_id bodies (different_ids bodies rises)) in
     let same = IsPermutation-sym bodies (sorted_by by_key bodies) (permuted by_key bodies) in
     sym (only by_id (sorted_by by_key bodies) bodies same order)
-
--- So a snapshot of a list of a run holds what its slot does, in the order of ids.
-pub state-sorted_back : (run : Run) (k : ℕ) → IsRun run → sorted_by by_id (sorted_by by_key (state_of run k)) ≡ state_of run k
-state-sorted_back run k is =
-    sorted_back (state_of run k) (steps_valid run.params (take k (directions run.begin run.legs)) run.bodies is.bodies).ids

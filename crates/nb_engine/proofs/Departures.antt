@@ -22,14 +22,14 @@ use Rattle.nb_tick.specs.Slots.{slot_of}
 use Rattle.nb_engine.specs.declared.going.Done.{Done}
 use Rattle.nb_engine.specs.declared.refusal.Refusal.{Refusal}
 use Rattle.nb_engine.specs.declared.refusal.Refusal.TheVariants as refusal
-use Rattle.nb_engine.specs.Frame.{EachImage, IsApart, KeepsApart}
+use Rattle.nb_engine.specs.Frame.{EachImage, IsOutsideRun, KeepsOutsideRun}
 use Rattle.nb_engine.specs.Histories.{History, IsHistory, legged}
 use Rattle.nb_engine.specs.Represents.{RepresentsRun}
 use Rattle.nb_engine.specs.Refusal.{NeedsNoCause}
-use Rattle.nb_engine.specs.Sessions.{ticks_left, aimed_at, ticks_to, IsLed, OpenLeads, GoLeads, IsNoLeg, IsOfLeg, CanGo, IsSlotSpoilt}
+use Rattle.nb_engine.specs.Sessions.{ticks_left, aimed_at, ticks_to, IsLed, OpenLeads, GoLeads, IsNoLeg, IsOfLeg, IsGoReady, IsSlotDamaged}
 use Rattle.nb_engine.specs.Shown.{IsOfShow}
 use Rattle.nb_engine.specs.Snapshots.{snapshot_files}
-use Rattle.nb_engine.specs.Steps.{played, IsCheckpoint, IsFlushed, GoesOn, HasPlayed, IsUpToDate, HasState, IsSpoilt}
+use Rattle.nb_engine.specs.Steps.{played, IsCheckpoint, IsFlushed, GoesOn, HasPlayed, HoldsDueSnapshots, HasState, IsStateDamaged}
 use Rattle.nb_engine.proofs.EachImages.{each_then, each_told}
 use Rattle.nb_engine.proofs.GoingOn.{IsStanding, Went, go_on, leg_each, leg_at, leg_date, leg_kept, leg_others, leg_said, leg_goes}
 use Rattle.nb_engine.proofs.Led.{SnapshotIsBack, led, led_here, led_away, left_of_leg}
@@ -38,8 +38,8 @@ use Rattle.nb_engine.proofs.Played.{played_from}
 -- ---- steps
 
 -- calls that keep what is apart, one after the other
-pub apart_both : {H : Type 0} {m : HostModel H} {old middle new : H} → Leads m KeepsApart old middle → Leads m KeepsApart middle new
-    → Leads m KeepsApart old new
+pub apart_both : {H : Type 0} {m : HostModel H} {old middle new : H} → Leads m KeepsOutsideRun old middle → Leads m KeepsOutsideRun middle new
+    → Leads m KeepsOutsideRun old new
 apart_both one two =
     leads_then one two (λ start image first. first)
     (λ start between image first second. record {
@@ -47,20 +47,20 @@ apart_both one two =
       err = second.err ∙ first.err;
     })
 
-never_journal : (number : ℕ) → IsApart number → number ≡ journal_file → ⊥
+never_journal : (number : ℕ) → IsOutsideRun number → number ≡ journal_file → ⊥
 never_journal number (inl low) same = omega arith
 never_journal number (inr high) same = absurd (omega (arith, high.0))
 
 -- an entry changes the journal's file alone
 pub journal_apart : {H : Type 0} {m : HostModel H} {P : List ℕ → List ℕ → Type 0} {old new : H}
-    → Leads m (FileBecomes journal_file P) old new → Leads m KeepsApart old new
+    → Leads m (FileBecomes journal_file P) old new → Leads m KeepsOutsideRun old new
 journal_apart leads =
     leads_more leads (λ start image step. record {
       files = λ number is. step.others number (never_journal number is);
       err = ap (λ (f : Channel → List ℕ). f channels.Err) step.said;
     })
 
-pub open_apart : {H : Type 0} {m : HostModel H} {old new : H} → Leads m OpenLeads old new → Leads m KeepsApart old new
+pub open_apart : {H : Type 0} {m : HostModel H} {old new : H} → Leads m OpenLeads old new → Leads m KeepsOutsideRun old new
 open_apart leads = leads_more leads (λ start image step. step.session.apart)
 
 -- the cache stays as it is through an entry
@@ -88,9 +88,9 @@ free_no_leg why (inl device) of_leg = subst IsOfLeg device of_leg
 free_no_leg why (inr memory) of_leg = subst IsOfLeg memory of_leg
 
 pub run_no_leg : {H : Type 0} {m : HostModel H} {journal : Counters} {host : H} (why : Refusal)
-    → NeedsNoCause why ⊎ IsSpoilt m journal host why → IsOfLeg why → ⊥
+    → NeedsNoCause why ⊎ IsStateDamaged m journal host why → IsOfLeg why → ⊥
 run_no_leg why (inl free) of_leg = free_no_leg why free of_leg
-run_no_leg why (inr spoilt) of_leg = subst IsOfLeg spoilt.shown of_leg
+run_no_leg why (inr spoilt) of_leg = subst IsOfLeg spoilt.named of_leg
 
 -- where none is refused the last one has ended
 pub leg_ended : (target : ℕ) (journal : Counters) → ((why : Refusal) → IsNoLeg target journal.progress why → ⊥)
@@ -100,11 +100,11 @@ leg_ended target journal none = elim (cases_eq journal.progress.time journal.pro
   | inr away ↦ absurd (none _ (inl (away, refl)))
 ]
 
-module _ {H : Type 0} (m : HostModel H) (target : ℕ) {h0 h1 : H} (journal : Counters) (durable : IsDurable m h0) (found : IsTrue m.tells → IsFound journal ((m.contents h0).file journal_file)) (leads1 : Leads m OpenLeads h0 h1) (each1 : (h : History) → IsHistory h → RepresentsRun h (m.contents h0) → EachImage m (GoesOn 0 h (m.contents h0)) h0 h1) (begun : IsTrue m.tells → (h : History) → IsHistory h → RepresentsRun h (m.contents h0) → HasPlayed m 0 h (m.contents h0) journal h1 × IsUpToDate m h h1) (none : (why : Refusal) → IsNoLeg target journal.progress why → ⊥) where
+module _ {H : Type 0} (m : HostModel H) (target : ℕ) {h0 h1 : H} (journal : Counters) (durable : IsDurable m h0) (found : IsTrue m.tells → IsFound journal ((m.contents h0).file journal_file)) (leads1 : Leads m OpenLeads h0 h1) (each1 : (h : History) → IsHistory h → RepresentsRun h (m.contents h0) → EachImage m (GoesOn 0 h (m.contents h0)) h0 h1) (begun : IsTrue m.tells → (h : History) → IsHistory h → RepresentsRun h (m.contents h0) → HasPlayed m 0 h (m.contents h0) journal h1 × HoldsDueSnapshots m h h1) (none : (why : Refusal) → IsNoLeg target journal.progress why → ⊥) where
   abbrev pub first : Image
   first = m.contents h0
 
-  pub can_go : IsTrue m.tells → CanGo target first.file
+  pub can_go : IsTrue m.tells → IsGoReady target first.file
   can_go tells =
       let there = found tells in (
         there.log,
@@ -122,7 +122,7 @@ module _ {H : Type 0} (m : HostModel H) (target : ℕ) {h0 h1 : H} (journal : Co
       (led law has.0 has.1 (leg_ended target journal none) time ticks gone)
 
   module _ {P : List ℕ → List ℕ → Type 0} {h2 : H} (next : IsNextLeg journal.progress target) (leads2 : Leads m (FileBecomes journal_file P) h1 h2) (images2 : (log : Log) → Answers log journal → IsCleanNow m log h1 → ImagesFollow m.crashes h1 h2 (Appends log (Leg target) (m.contents h1))) where
-    apart2 : Leads m KeepsApart h0 h2
+    apart2 : Leads m KeepsOutsideRun h0 h2
     apart2 = apart_both (open_apart leads1) (journal_apart leads2)
 
     each2 : (s : IsStanding first) → EachImage m (Went target first s) h0 h2
@@ -153,14 +153,14 @@ module _ {H : Type 0} (m : HostModel H) (target : ℕ) {h0 h1 : H} (journal : Co
 
     module _ {journal2 : Counters} (is2 : journal2 ≡ counters_after (Leg target) journal) where
       -- a slot that is spoilt behind the leg was so before
-      pub spoilt_leg : IsTrue m.tells → {why : Refusal} → IsSpoilt m journal2 h2 why → IsSlotSpoilt first.file why
+      pub spoilt_leg : IsTrue m.tells → {why : Refusal} → IsStateDamaged m journal2 h2 why → IsSlotDamaged first.file why
       spoilt_leg tells {why = why} spoilt =
           let there = found tells in
           record {
             log = there.log;
             journal = there.journal;
             page = spoilt.page;
-            shown = spoilt.shown;
+            named = spoilt.named;
             file = spoilt.file;
             cause = λ bodies has.
                 let own = subst (λ (c : Counters). HasState c bodies first.file) (sym there.answers) has in
@@ -177,7 +177,7 @@ module _ {H : Type 0} (m : HostModel H) (target : ℕ) {h0 h1 : H} (journal : Co
         others2 : IsTrue m.tells → AgreesOutside (journal_file ∷ []) (m.contents h1) (m.contents h2)
         others2 tells = becomes_agrees (leads2.contents tells)
 
-        behind_leg : IsTrue m.tells → (s : IsStanding first) → IsCheckpoint m (legged target s.h) journal2 h2 × IsUpToDate m (legged target s.h) h2
+        behind_leg : IsTrue m.tells → (s : IsStanding first) → IsCheckpoint m (legged target s.h) journal2 h2 × HoldsDueSnapshots m (legged target s.h) h2
         behind_leg tells s =
             let has = begun tells s.h s.is s.represents in
             let clean = added s.h.log has.0.at.answers tells has.0.at.represents.journal in
@@ -192,7 +192,7 @@ module _ {H : Type 0} (m : HostModel H) (target : ℕ) {h0 h1 : H} (journal : Co
             ap (λ (c : Counters). ticks_left c.progress) is2 ∙ left_of_leg target s.h journal has.0.at.answers
 
         -- the leg was run, or some of it
-        pub went_on : {h3 : H} → Leads m KeepsApart h2 h3 → ((h : History) → IsCheckpoint m h journal2 h2 → IsUpToDate m h h2
+        pub went_on : {h3 : H} → Leads m KeepsOutsideRun h2 h3 → ((h : History) → IsCheckpoint m h journal2 h2 → HoldsDueSnapshots m h h2
             → EachImage m (GoesOn (ticks_left journal2.progress) h (m.contents h2)) h2 h3)
             → Leads m (GoLeads m.crashes.is_honest target) h0 h3
         went_on {h3 = h3} leads3 images3 =
@@ -212,8 +212,8 @@ module _ {H : Type 0} (m : HostModel H) (target : ℕ) {h0 h1 : H} (journal : Co
 
         -- it was run to its end
         pub led_on : SnapshotIsBack → {h3 : H} {journal3 : Counters} {done : Done} → target ≢ journal.progress.time → ((h : History) → IsCheckpoint m h journal2 h2
-            → IsUpToDate m h h2 → HasPlayed m (ticks_left journal2.progress) h (m.contents h2) journal3 h3
-            × IsUpToDate m (played (ticks_left journal2.progress) h) h3)
+            → HoldsDueSnapshots m h h2 → HasPlayed m (ticks_left journal2.progress) h (m.contents h2) journal3 h3
+            × HoldsDueSnapshots m (played (ticks_left journal2.progress) h) h3)
             → journal3.progress.time ≡ journal3.progress.target → done.time ≡ journal3.progress.time
             → done.ticks ≡ journal3.progress.ticks → done.gone ≡ journal3.progress.gone → IsTrue m.tells → (h : History)
             → IsHistory h → RepresentsRun h first → IsLed (ticks_to target h) (aimed_at target h) first done (m.contents h3)
@@ -224,7 +224,7 @@ module _ {H : Type 0} (m : HostModel H) (target : ℕ) {h0 h1 : H} (journal : Co
             let clean = added h.log has.0.at.answers tells has.0.at.represents.journal in
             let more = run (legged target h) both.0 both.1 in
             let here = subst (λ (n : ℕ). HasPlayed m n (legged target h) (m.contents h2) journal3 h3
-            × IsUpToDate m (played n (legged target h)) h3) (ticks_are tells s) more in
+            × HoldsDueSnapshots m (played n (legged target h)) h3) (ticks_are tells s) more in
             let rebased = played_from
             (λ j within finished. leg_kept m target h first journal has.0 has.1 next clean durable2 (others2 tells) j within finished)
             (λ j passed. leg_others m target h first journal has.0 has.1 next clean durable2 (others2 tells) j passed)

@@ -12,10 +12,10 @@ use Rattle.nb_journal.specs.declared.entry.Entry.{Entry}
 use Rattle.nb_journal.specs.declared.entry.Entry.TheVariants.{Leg, Tick}
 use Rattle.nb_journal.specs.Counters.{Counters, Answers, counters_of}
 use Rattle.nb_journal.specs.Entries.{Progress, IsNextEntry, AreLawful, toward, progress_after, after_all}
-use Rattle.nb_journal.specs.Form.{IsLawful, begun, progress_of}
+use Rattle.nb_journal.specs.Form.{IsLawful, initial_progress, progress_of}
 use Rattle.nb_journal.proofs.Callers.{progress-with_entry}
 use Rattle.nb_engine.specs.Due.{IsDueByCounters, TellsDue}
-use Rattle.nb_engine.specs.Histories.{Run, state_of, IsDueAfter, length_of, History, legs_in, run_of, ticks_of, with_entry_of, ticked, legged}
+use Rattle.nb_engine.specs.Histories.{Run, state_at, IsDueAfter, run_length, History, legs_in, run_of, ticks_of, with_entry_of, ticked, legged}
 use Rattle.nb_engine.proofs.LongerLogs.{legs_in-tick, run-legged, ticks-legged, ticks-ended}
 use Rattle.nb_engine.proofs.LongerRuns.{length-directions_to}
 use Rattle.nb_engine.proofs.Paths.{told, ticks-within}
@@ -35,12 +35,12 @@ lawful_before h entry lawful = record {
   count = lawful.count;
   time = lawful.time;
   gone = lawful.gone;
-  entries = (lawful_front h.log.count (begun h.log) h.log.entries entry lawful.entries).0;
+  entries = (lawful_front h.log.count (initial_progress h.log) h.log.entries entry lawful.entries).0;
 }
 
 next_entry : (h : History) (entry : Entry) → IsLawful (with_entry_of entry h).log
     → IsNextEntry h.log.count (progress_of h.log) entry
-next_entry h entry lawful = (lawful_front h.log.count (begun h.log) h.log.entries entry lawful.entries).1
+next_entry h entry lawful = (lawful_front h.log.count (initial_progress h.log) h.log.entries entry lawful.entries).1
 
 -- ---- legs that have ended
 
@@ -81,11 +81,11 @@ ended_legs : (h : History) (n : ℕ) → IsLawful h.log → n < length (run_of h
     → length (directions (run_of h).begin (take n (run_of h).legs)) ≤ ticks_of h
 ended_legs h n lawful within =
     let begin = h.log.begin_time in
-    omega (arith, ended_by h.log.count (begun h.log) h.log.entries n lawful.entries within)
+    omega (arith, ended_by h.log.count (initial_progress h.log) h.log.entries n lawful.entries within)
 
 -- the ticks of a run are those that are done and those that are left
 ticks-left : (h : History) → IsLawful h.log
-    → length_of (run_of h) ≡ ticks_of h + abs_diff (progress_of h.log).time (progress_of h.log).target
+    → run_length (run_of h) ≡ ticks_of h + abs_diff (progress_of h.log).time (progress_of h.log).target
 ticks-left h lawful =
     let is = told h lawful in
     let now = progress_of h.log in
@@ -182,7 +182,7 @@ due_by-ticked h lawful answers = (
   λ is. due_by (ticked h) lawful (subst IsDueByCounters answers is),
   λ due.
       subst IsDueByCounters (sym answers)
-      (due_told h (suc (ticks_of h)) (escaped_count (state_of (run_of h) (suc (ticks_of h)))) lawful due),
+      (due_told h (suc (ticks_of h)) (escaped_count (state_at (run_of h) (suc (ticks_of h)))) lawful due),
 )
 
 pub tells_due-ticked : {journal : Counters} {due : Bool} (h : History) → IsLawful (ticked h).log
@@ -213,24 +213,6 @@ ends_with h i entry last is =
       before = record { log = record h.log { entries = rest.0 }; bodies = h.bodies };
       is = ap (λ (l : List Entry). record { log = record h.log { entries = l }; bodies = h.bodies }) rest.1;
     }
-
--- No snapshot is due before the first tick.
-pub tells_none : {journal : Counters} (h : History) → Answers h.log journal → journal.progress.ticks ≡ 0 → TellsDue h false
-tells_none h answers none =
-    let same = ap (λ (c : Counters). c.progress.ticks) answers in
-    (λ is. absurd (false≢true is), λ due. absurd (omega (arith, due.some, same)))
-
--- There is no tick where there is no entry.
-pub tells_empty : {journal : Counters} (h : History) → Answers h.log journal → journal.entries ≡ 0
-    → journal.progress.ticks ≢ 0 → TellsDue h false
-tells_empty {journal} h answers empty some =
-    let entries = ap (λ (c : Counters). c.entries) answers in
-    let ticks = ap (λ (c : Counters). c.progress.ticks) answers in
-    absurd (some (ticks ∙ no_ticks h.log.entries (omega arith)))
-  where
-    no_ticks : (l : List Entry) → length l ≡ 0 → (after_all l (begun h.log)).ticks ≡ 0
-    no_ticks [] none = refl
-    no_ticks (entry ∷ l) none = absurd (omega arith)
 
 pub tells_by : {journal : Counters} (h : History) → IsLawful h.log → Answers h.log journal → IsDueByCounters journal → TellsDue h true
 tells_by h lawful answers is = (λ _. due_by h lawful (subst IsDueByCounters answers is), λ _. refl)

@@ -1,10 +1,10 @@
 -- What holds of each image of a stretch of calls that begins where what reads is durable.
 use Rattle.std.proofs.Common.{◌≡◌, ℕ, inl, inr, IsTrue, refl, sym, subst, ◌∙◌, ap, List, arith}
 use Rattle.nb_host.specs.declared.host.Channel.{Channel}
-use Rattle.nb_host.specs.Crashes.{ImagesFollow, EverySince, Stays}
+use Rattle.nb_host.specs.Crashes.{ImagesFollow, Stays}
 use Rattle.nb_host.specs.Image.{Image, SaysPart}
 use Rattle.nb_host.specs.Meaning.{HostModel, Leads, IsDurable}
-use Rattle.nb_host.proofs.Callers.{weaken, goes_on, every_since, begins}
+use Rattle.nb_host.proofs.Callers.{weaken, goes_on, begins}
 use Rattle.nb_engine.specs.Frame.{EachImage}
 
 -- no call yet
@@ -71,14 +71,6 @@ pub each_reads : {H : Type 0} (m : HostModel H) (P : Image → Type 0) {old new 
     → IsTrue m.crashes.is_honest → P (m.contents new)
 each_reads m P {new = new} each honest =
     let last = (each.follows honest).now (m.contents new) (m.leaves_contents new honest) in last.2
-
--- each image since the start, where that was durable
-pub every_image : {H : Type 0} (m : HostModel H) (P : Image → Type 0) {old new : H} → IsDurable m old
-    → (IsTrue m.crashes.is_honest → P (m.contents old)) → EachImage m P old new → EverySince m.crashes P old new
-every_image m P durable here each =
-    every_since P m.counts_only_now each
-    (λ image honest is. subst P (sym (durable image honest is)) (here honest))
-    (λ start image honest is later. later)
 
 -- what is durable stays so through a call that changes nothing, and through a say
 pub durable_stays : {H : Type 0} (m : HostModel H) {old new : H} → IsDurable m old → Leads m Stays old new → IsDurable m new
@@ -158,7 +150,7 @@ leads_each {m = m} {S = S} Index P {old = old} {new = new} durable leads here ea
                           λ honest i.
                               elim (((each i).follows honest).since start_moment image (omega arith) (left.0 start_moment (omega arith))) [
                                 | inl earlier ↦
-                                    subst (P i) (sym (durable image honest (m.counts_only_now old image honest earlier))) (here honest i)
+                                    subst (P i) (sym (durable image honest (m.includes_only_now old image honest earlier))) (here honest i)
                                 | inr own ↦ own.1.2
                               ],
                         ),

@@ -34,10 +34,10 @@ use Rattle.nb_engine.specs.declared.refusal.Refusal.{Refusal}
 use Rattle.nb_engine.specs.declared.refusal.Refusal.TheVariants as refusal
 use Rattle.nb_engine.specs.Files.{IsPagedFile}
 use Rattle.nb_engine.specs.Frame.{RanSession}
-use Rattle.nb_engine.specs.Histories.{state_of, History, run_of, ticks_of, IsHistory}
+use Rattle.nb_engine.specs.Histories.{state_at, History, run_of, ticks_of, IsHistory}
 use Rattle.nb_engine.specs.Refusal.{of_host, of_tick, NeedsNoCause}
-use Rattle.nb_engine.specs.Represents.{snap_of, IsOpened, RepresentsRun}
-use Rattle.nb_engine.specs.Steps.{IsFlushed, HasState, IsSpoilt, fill_files, IsFilled, HasNext}
+use Rattle.nb_engine.specs.Represents.{snap_of, HasOpenGate, RepresentsRun}
+use Rattle.nb_engine.specs.Steps.{IsFlushed, HasState, IsStateDamaged, fill_files, IsFilled, HasNextState}
 use Rattle.nb_engine.proofs.Frames.{session_ran, session_cached, session_then}
 use Rattle.nb_engine.proofs.Paths.{state-forward, state-back}
 use Rattle.nb_engine.proofs.Steps.{steps_valid}
@@ -197,23 +197,23 @@ LeadsBy time target way = ((time < target) × (way ≡ Forward)) ⊎ ((target �
 
 state_next : (h : History) (journal : Counters) (way : Way) → Answers h.log journal → IsLawful h.log
     → journal.progress.time ≢ journal.progress.target → LeadsBy journal.progress.time journal.progress.target way
-    → state_of (run_of h) (suc (ticks_of h)) ≡ step h.log.params way (state_of (run_of h) (ticks_of h))
+    → state_at (run_of h) (suc (ticks_of h)) ≡ step h.log.params way (state_at (run_of h) (ticks_of h))
 state_next h journal way answers lawful apart (inl forward) =
     let below = subst (λ (j : Counters). j.progress.time < j.progress.target) answers forward.0 in
     state-forward h lawful below
-    ∙ ap (λ (w : Way). step h.log.params w (state_of (run_of h) (ticks_of h))) (sym forward.1)
+    ∙ ap (λ (w : Way). step h.log.params w (state_at (run_of h) (ticks_of h))) (sym forward.1)
 state_next h journal way answers lawful apart (inr back) =
     let above : journal.progress.target < journal.progress.time = omega (arith, back.0, apart) in
     let below = subst (λ (j : Counters). j.progress.target < j.progress.time) answers above in
     state-back h lawful below
-    ∙ ap (λ (w : Way). step h.log.params w (state_of (run_of h) (ticks_of h))) (sym back.1)
+    ∙ ap (λ (w : Way). step h.log.params w (state_at (run_of h) (ticks_of h))) (sym back.1)
 
 -- where a tick was done, there are some
 pub some_ticks : (ticks now : ℕ) → ticks ≡ now → ltb 0 ticks ≡ true → now ≢ 0
 some_ticks ticks now same some none = omega (arith, ltb-true 0 ticks some, same, none)
 
 -- nothing is opened in an empty file
-none_opened : IsOpened [] → ⊥
+none_opened : HasOpenGate [] → ⊥
 none_opened opened = omega (arith, opened.more)
 
 -- ---- a tick into the other slot
@@ -231,14 +231,14 @@ module _ {H : Type 0} (m : HostModel H) (journal : Counters) (params : Params) (
 
   -- why a tick refuses
   pub tick_cause : (error : TickError) → ((page : PageName) → error ≡ tick.Damaged page → IsNoState m params from count h0 page)
-      → NeedsNoCause (of_tick error) ⊎ IsSpoilt m journal h0 (of_tick error)
+      → NeedsNoCause (of_tick error) ⊎ IsStateDamaged m journal h0 (of_tick error)
   tick_cause tick.Fault none = inl (inl refl)
   tick_cause tick.NoMemory none = inl (inr refl)
   tick_cause (tick.Damaged page) none =
       let is = none page refl in
       inr (record {
         page = page;
-        shown = refl;
+        named = refl;
         file = tick_paged from page.file is.file;
         cause = λ tells bodies has.
             is.cause tells bodies (valid_state bodies has) (has.count ∙ sym count_is) (holds_state bodies has);
@@ -288,7 +288,7 @@ module _ {H : Type 0} (m : HostModel H) (journal : Counters) (params : Params) (
     pub next_left : (IsTrue m.tells → (bodies : List Body) → IsValidBodies params bodies → length bodies ≡ count
         → HoldsState bodies slot_bytes → LeavesState params from bodies (m.contents h1) gone)
         → IsTrue m.tells → (bodies : List Body) → HasState journal bodies (m.contents h0).file
-        → HasNext journal gone (m.contents h2).file
+        → HasNextState journal gone (m.contents h2).file
     next_left leaves tells bodies has =
         let left = leaves tells bodies (valid_state bodies has) (has.count ∙ sym count_is) (holds_state bodies has) in
         let there = subst (λ (n : ℕ). HoldsState left.next ((m.contents h1).file n)) (other_is from journal.progress.ticks from_is)
@@ -309,13 +309,13 @@ module _ {H : Type 0} (m : HostModel H) (journal : Counters) (params : Params) (
         → IsStepped params way from bodies (m.contents h1) gone)
         → (IsTrue m.tells → (m.contents h2).file file ≡ [])
         → IsTrue m.tells → (h : History) → Answers h.log journal → IsHistory h → RepresentsRun h (m.contents h0)
-        → IsFilled h (m.contents h2) × (gone ≡ escaped_count (state_of (run_of h) (suc (ticks_of h))))
+        → IsFilled h (m.contents h2) × (gone ≡ escaped_count (state_at (run_of h) (suc (ticks_of h))))
     filled way known apart leads right steps_on empty tells h answers is represents =
         let run = run_of h in
         let k = ticks_of h in
         let ticks = ap (λ (j : Counters). j.progress.ticks) answers in
-        let list = state_of run k in
-        let next = state_of run (suc k) in
+        let list = state_at run k in
+        let next = state_at run (suc k) in
         let params_of = params_is ∙ ap (λ (j : Counters). j.params) answers in
         let here : slot_file from ≡ slot_of k = from_is ∙ ap slot_of ticks in
         let many : length list ≡ count =
@@ -342,7 +342,7 @@ module _ {H : Type 0} (m : HostModel H) (journal : Counters) (params : Params) (
             slot = subst (HoldsKickedState h.log.params next) (sym (other_kept tells (slot_of (suc k)) (omega arith))) slot_there;
             cells = subst (IsCellIndexOf h.log.params next) (sym (other_kept tells cell_file (omega arith))) cells_there;
             shut = λ opened.
-                none_opened (subst IsOpened (ap (m.contents h2).file (sym snap) ∙ empty tells) opened);
+                none_opened (subst HasOpenGate (ap (m.contents h2).file (sym snap) ∙ empty tells) opened);
           },
           stepped.escaped_is ∙ ap escaped_count same,
         )

@@ -22,15 +22,14 @@ use Rattle.nb_journal.specs.Offsets.{journal_file}
 use Rattle.nb_record.specs.Order.{by_key, sorted_by, HoldsBodies, HoldsKickedBodies}
 use Rattle.nb_tick.specs.Slots.{slot_of, sorted_file}
 use Rattle.nb_engine.specs.declared.refusal.Refusal.{Refusal}
-use Rattle.nb_engine.specs.Acknowledged.{IsAcknowledgedUpTo}
 use Rattle.nb_engine.specs.Due.{TellsDue}
 use Rattle.nb_engine.specs.Files.{init_file, IsPagedFile}
 use Rattle.nb_engine.specs.Frame.{EachImage}
-use Rattle.nb_engine.specs.Histories.{state_of, time_of, IsDueAfter, History, run_of, ticks_of, IsHistory}
+use Rattle.nb_engine.specs.Histories.{state_at, time_at, IsDueAfter, History, run_of, ticks_of, IsHistory}
 use Rattle.nb_engine.specs.Refusal.{NeedsNoCause}
-use Rattle.nb_engine.specs.Represents.{snap_of, IsOpened, IsSnapshotOf, RepresentsRun, IsComplete}
-use Rattle.nb_engine.specs.Snapshots.{HoldsByKeys, IsSnapshotPage, IsBroken}
-use Rattle.nb_engine.specs.Steps.{IsCheckpoint, IsSpoilt, GoesOn, HasPlayed, IsUpToDate}
+use Rattle.nb_engine.specs.Represents.{snap_of, HasOpenGate, IsSnapshotOf, RepresentsRun, HasDueSnapshots}
+use Rattle.nb_engine.specs.Snapshots.{HoldsByKeys, IsSnapshotPage, IsPageDamaged}
+use Rattle.nb_engine.specs.Steps.{IsCheckpoint, IsStateDamaged, GoesOn, HasPlayed, HoldsDueSnapshots}
 use Rattle.nb_engine.proofs.Played.{passed_apart}
 use Rattle.nb_engine.proofs.EachImages.{from_durable, durable_stays}
 use Rattle.nb_engine.proofs.Paths.{time-now}
@@ -41,7 +40,7 @@ use Rattle.nb_engine.proofs.Steps.{steps_valid, length-steps}
 -- ---- a list of a run
 
 -- a run keeps its bodies
-length-state : (h : History) (k : ℕ) → length (state_of (run_of h) k) ≡ length h.bodies
+length-state : (h : History) (k : ℕ) → length (state_at (run_of h) k) ≡ length h.bodies
 length-state h k = length-steps h.log.params (take k (directions (run_of h).begin (run_of h).legs)) h.bodies
 
 -- ---- what the journal in hand tells
@@ -53,15 +52,15 @@ tells_count : {h : History} {journal : Counters} → IsHistory h → Answers h.l
 tells_count is answers = ap (λ (c : Counters). c.count) answers ∙ is.count
 
 tells_time : (h : History) {journal : Counters} → IsLawful h.log → Answers h.log journal
-    → journal.progress.time ≡ time_of (run_of h) (ticks_of h)
+    → journal.progress.time ≡ time_at (run_of h) (ticks_of h)
 tells_time h lawful answers = ap (λ (c : Counters). c.progress.time) answers ∙ time-now h lawful
 
 -- the slot holds the list of the last tick
 pub slot_by_keys : {H : Type 0} {m : HostModel H} (h : History) {journal : Counters} {host : H} → IsCheckpoint m h journal host
-    → SlotHolds m journal host (state_of (run_of h) (ticks_of h))
+    → SlotHolds m journal host (state_at (run_of h) (ticks_of h))
 slot_by_keys {m = m} h {journal = journal} {host = host} at =
     let run = run_of h in
-    let list = state_of run (ticks_of h) in
+    let list = state_at run (ticks_of h) in
     record {
       holds = subst (λ (n : ℕ). HoldsBodies ((m.contents host).file (slot_of n)) (sorted_by by_key list))
           (sym (tells_ticks h at.answers)) at.represents.slot;
@@ -104,7 +103,7 @@ images_none {m = m} {h = h} {old = old} at leads =
 -- All that is due is finished where the snapshot of the last tick is, if that is due.
 complete_if : (h : History) (image : Image) → RepresentsRun h image
     → (IsDueAfter (run_of h) (ticks_of h) → IsFinishedSnapshot (length h.bodies) (image.file (snap_of (ticks_of h))))
-    → IsComplete (run_of h) (ticks_of h) image
+    → HasDueSnapshots (run_of h) (ticks_of h) image
 complete_if h image represents last = λ j due within.
     elim (cases_eq j (ticks_of h)) [
       | inl same ↦
@@ -115,7 +114,7 @@ complete_if h image represents last = λ j due within.
 
 -- It isn't due.
 pub complete_undue : {H : Type 0} {m : HostModel H} {h : History} {journal : Counters} {host : H} {due : Bool} → due ≡ false
-    → TellsDue h due → IsCheckpoint m h journal host → IsUpToDate m h host
+    → TellsDue h due → IsCheckpoint m h journal host → HoldsDueSnapshots m h host
 complete_undue {m = m} {h = h} {host = host} undue tells at =
     complete_if h (m.contents host) at.represents (λ is. absurd (false≢true (sym undue ∙ tells.1 is)))
 
@@ -138,9 +137,9 @@ last_number {h = h} {file = file} image is answers number many finished =
 -- It is finished already, which was read.
 pub complete_found : {H : Type 0} {m : HostModel H} {h : History} {journal : Counters} {old new : H} {file count : ℕ}
     → IsCheckpoint m h journal old → Leads m Stays old new → file ≡ snap_of journal.progress.ticks → count ≡ journal.count
-    → (IsTrue m.tells → IsFinishedSnapshot count ((m.contents old).file file)) → IsUpToDate m h new
+    → (IsTrue m.tells → IsFinishedSnapshot count ((m.contents old).file file)) → HoldsDueSnapshots m h new
 complete_found {m = m} {h = h} {old = old} at leads number many found =
-    subst (IsComplete (run_of h) (ticks_of h)) (sym (leads.contents at.tells))
+    subst (HasDueSnapshots (run_of h) (ticks_of h)) (sym (leads.contents at.tells))
     (complete_if h (m.contents old) at.represents
     (λ due. last_file (m.contents old) at.is at.answers number many (found at.tells)))
 
@@ -162,12 +161,12 @@ module _ (h : History) (old image : Image) (agrees : AgreesOutside (snap_of (tic
 
   -- the folder represents what it did, where the last snapshot is the run's, if it is opened
   pub represents_written : RepresentsRun h old
-      → (IsOpened (image.file (snap_of (ticks_of h))) → IsSnapshotOf (run_of h) (ticks_of h) (image.file (snap_of (ticks_of h))))
+      → (HasOpenGate (image.file (snap_of (ticks_of h))) → IsSnapshotOf (run_of h) (ticks_of h) (image.file (snap_of (ticks_of h))))
       → RepresentsRun h image
   represents_written represents last =
       let run = run_of h in
       let k = ticks_of h in
-      let list = sorted_by by_key (state_of run k) in
+      let list = sorted_by by_key (state_at run k) in
       let stands = represents in
       let slot = same_other (slot_of k) (omega arith) (omega arith) in
       record {
@@ -176,7 +175,7 @@ module _ (h : History) (old image : Image) (agrees : AgreesOutside (snap_of (tic
             (sym (same_other init_file (omega arith) (omega arith))) stands.start;
         slot = subst (λ (file : List ℕ). HoldsBodies file list) (sym slot) stands.slot;
         kicks = λ some.
-            subst (λ (file : List ℕ). HoldsKickedBodies file (half_kick run.params (state_of run k)) list) (sym slot)
+            subst (λ (file : List ℕ). HoldsKickedBodies file (half_kick run.params (state_at run k)) list) (sym slot)
             (stands.kicks some);
         finished = λ j due below.
             subst (IsFinishedSnapshot (length run.bodies)) (sym (same_snap j (omega arith))) (stands.finished j due below);
@@ -184,10 +183,10 @@ module _ (h : History) (old image : Image) (agrees : AgreesOutside (snap_of (tic
             elim (cases_eq j k) [
               | inl same ↦
                   subst (λ (n : ℕ). IsSnapshotOf run n (image.file (snap_of n))) (sym same)
-                  (last (subst (λ (n : ℕ). IsOpened (image.file (snap_of n))) same opened))
+                  (last (subst (λ (n : ℕ). HasOpenGate (image.file (snap_of n))) same opened))
               | inr apart ↦
                   let snap = same_snap j apart in
-                  subst (IsSnapshotOf run j) (sym snap) (stands.right j some within (subst IsOpened snap opened))
+                  subst (IsSnapshotOf run j) (sym snap) (stands.right j some within (subst HasOpenGate snap opened))
             ];
       }
 
@@ -215,7 +214,7 @@ unopened h old represents some unfinished = λ long open'.
 goes_writing : (h : History) (old image : Image) → RepresentsRun h old → IsDueAfter (run_of h) (ticks_of h)
     → (IsFinishedSnapshot (length h.bodies) (old.file (snap_of (ticks_of h))) → ⊥)
     → ChangesWith (sorted_file ∷ []) (snap_of (ticks_of h))
-    (IsWritten (state_of (run_of h) (ticks_of h)) (time_of (run_of h) (ticks_of h))) old image
+    (IsWritten (state_at (run_of h) (ticks_of h)) (time_at (run_of h) (ticks_of h))) old image
     → GoesOn 0 h old image
 goes_writing h old image represents due unfinished step = record {
   done = 0;
@@ -262,9 +261,9 @@ pub images_written : {H : Type 0} {m : HostModel H} {h : History} {journal : Cou
 images_written {m = m} {h = h} {journal = journal} {old = old} {middle = middle} {new = new} is tells at read number many unfinished write =
     let run = run_of h in
     let k = ticks_of h in
-    let list = state_of run k in
+    let list = state_at run k in
     let now = m.contents old in
-    let P = IsWritten list (time_of run k) in
+    let P = IsWritten list (time_at run k) in
     let due = tells.0 is in
     let written = write list (λ _. slot_by_keys h (stays_at at read)) in
     let here : Leads m (ChangesWith (sorted_file ∷ []) (snap_of k) P) middle new =
@@ -285,16 +284,16 @@ pub played_written : {H : Type 0} {m : HostModel H} {h : History} {journal : Cou
     → (IsTrue m.tells → (bodies : List Body) → SlotHolds m journal middle bodies
     → IsSnapshot ((m.contents new).file (snap_of journal.progress.ticks)) bodies journal.progress.time)
     → IsDurable m new → Leads m (AgreesOutside (sorted_file ∷ snap_of journal.progress.ticks ∷ [])) middle new
-    → HasPlayed m 0 h (m.contents old) journal new × IsUpToDate m h new
+    → HasPlayed m 0 h (m.contents old) journal new × HoldsDueSnapshots m h new
 played_written {m = m} {h = h} {journal = journal} {old = old} {middle = middle} {new = new} is tells at read number many unfinished write durable leads =
     let run = run_of h in
     let k = ticks_of h in
-    let list = state_of run k in
+    let list = state_at run k in
     let before = m.contents old in
     let after = m.contents new in
     let due = tells.0 is in
     let lawful = at.represents.journal.journal.lawful in
-    let snapshot : IsSnapshot (after.file (snap_of k)) list (time_of run k) =
+    let snapshot : IsSnapshot (after.file (snap_of k)) list (time_at run k) =
     subst (IsSnapshot (after.file (snap_of k)) list) (tells_time h lawful at.answers)
     (subst (λ (n : ℕ). IsSnapshot (after.file (snap_of n)) list journal.progress.time) (tells_ticks h at.answers)
     (write at.tells list (slot_by_keys h (stays_at at read)))) in
@@ -332,15 +331,15 @@ snapshot_paged k page (inr sorted) = (omega (arith, sorted), omega (arith, sorte
 
 -- Where the slot holds no such list, the folder doesn't hold what its run needs to go on.
 pub spoilt : {H : Type 0} {m : HostModel H} {journal : Counters} {old middle : H} → Leads m Stays old middle → (why : Refusal)
-    → NeedsNoCause why ⊎ IsBroken m (IsSnapshotPage journal.progress.ticks) (SlotHolds m journal middle) why
-    → NeedsNoCause why ⊎ IsSpoilt m journal old why
+    → NeedsNoCause why ⊎ IsPageDamaged m (IsSnapshotPage journal.progress.ticks) (SlotHolds m journal middle) why
+    → NeedsNoCause why ⊎ IsStateDamaged m journal old why
 spoilt {m = m} {journal = journal} {middle = middle} read why cause =
     elim cause [
       | inl none ↦ inl none
       | inr broken ↦
           inr (record {
             page = broken.page;
-            shown = broken.shown;
+            named = broken.named;
             file = snapshot_paged journal.progress.ticks broken.page broken.place;
             cause = λ tells bodies state.
                 let keys : SlotHolds m journal middle bodies =

@@ -5,7 +5,7 @@ use Rattle.nb_host.specs.declared.host.Channel.TheVariants as channels
 use Rattle.nb_host.specs.declared.host.HostError.{HostError}
 use Rattle.nb_host.specs.declared.host.HostError.TheVariants.{Fault, NoMemory}
 use Rattle.nb_host.specs.Image.{Image}
-use Rattle.nb_host.specs.Meaning.{HostModel, Leads, Tally, Ran, RanSyncing, Spoke}
+use Rattle.nb_host.specs.Meaning.{HostModel, Leads, CallTally, Ran, RanSyncing, RanSaying}
 use Rattle.nb_host.proofs.Callers.{leads_none, ok_is_no_error, stopped_after}
 use Rattle.nb_cache.specs.View.{CacheValue}
 use Rattle.nb_cache.specs.Writes.{RanCached}
@@ -15,8 +15,8 @@ use Rattle.nb_engine.specs.Frame.{RanSession}
 use Rattle.nb_engine.specs.Refusal.{NeedsNoCause, of_host}
 
 -- equal tallies count as many syncs
-syncs_kept : {before after : Tally} → after ≡ before → before.syncs ≤ after.syncs
-syncs_kept same = let syncs = ap (λ (t : Tally). t.syncs) same in omega (arith, syncs)
+syncs_kept : {before after : CallTally} → after ≡ before → before.syncs ≤ after.syncs
+syncs_kept same = let syncs = ap (λ (t : CallTally). t.syncs) same in omega (arith, syncs)
 
 -- no call yet
 pub session_none : {H T : Type 0} (m : HostModel H) {by : Image → Image → Type 0} (host : H) {result : Result T Refusal}
@@ -42,8 +42,8 @@ session_ran ran there back = record {
   count = ran.count;
   rose = λ faulted. ran.rose (there faulted);
   spared = λ never. ran.spared (λ faulted. never (back faulted));
-  refused = λ _. ap (λ (t : Tally). t.refused_says channels.Err) ran.tally;
-  heard = λ _ _. ap (λ (t : Tally). t.refused_says channels.Out) ran.tally;
+  refused = λ _. ap (λ (t : CallTally). t.refused_says channels.Err) ran.tally;
+  heard = λ _ _. ap (λ (t : CallTally). t.refused_says channels.Out) ran.tally;
   synced = λ _ _. syncs_kept ran.tally;
 }
 
@@ -71,8 +71,8 @@ session_cached ran leads there back = record {
   count = ran.writes.count;
   rose = λ faulted. ran.rose (there faulted);
   spared = λ never. ran.spared (λ faulted. never (back faulted));
-  refused = λ _. ap (λ (t : Tally). t.refused_says channels.Err) ran.writes.tally;
-  heard = λ _ _. ap (λ (t : Tally). t.refused_says channels.Out) ran.writes.tally;
+  refused = λ _. ap (λ (t : CallTally). t.refused_says channels.Err) ran.writes.tally;
+  heard = λ _ _. ap (λ (t : CallTally). t.refused_says channels.Out) ran.writes.tally;
   synced = λ _ _. syncs_kept ran.writes.tally;
 }
 
@@ -81,7 +81,7 @@ Err≢Out same = cc
 
 -- a say on Out
 pub session_spoke : {H U : Type 0} {m : HostModel H} {bytes : List ℕ} {by : Image → Image → Type 0} {old new : H}
-    {one : Result (Unit {0}) HostError} {result : Result U Refusal} → Spoke m channels.Out bytes old new one → Leads m by old new
+    {one : Result (Unit {0}) HostError} {result : Result U Refusal} → RanSaying m channels.Out bytes old new one → Leads m by old new
     → (result ≡ Err refusal.Device → one ≡ Err Fault) → (one ≡ Err Fault → result ≡ Err refusal.Device)
     → (IsOk result → IsOk one) → RanSession m by old new result
 session_spoke spoke leads there back fine = record {
@@ -150,20 +150,6 @@ session_ended ran ok never = record {
   refused = ran.refused;
   heard = λ tells _. ran.heard tells ok;
   synced = λ tells _. ran.synced tells ok;
-}
-
--- the same behind a call of a crate below
-pub session_behind : {H T U E : Type 0} {m : HostModel H} {fault : E} {by : Image → Image → Type 0} {old new : H}
-    {one : Result T E} {result : Result U Refusal} → Ran m fault by old new one → IsOk one → result ≢ Err refusal.Device
-    → RanSession m by old new result
-session_behind ran ok never = record {
-  leads = ran.leads;
-  count = ran.count;
-  rose = λ faulted. absurd (never faulted);
-  spared = λ _. ran.spared (ok_is_no_error ok);
-  refused = λ _. ap (λ (t : Tally). t.refused_says channels.Err) ran.tally;
-  heard = λ _ _. ap (λ (t : Tally). t.refused_says channels.Out) ran.tally;
-  synced = λ _ _. syncs_kept ran.tally;
 }
 
 -- ---- what is handed on

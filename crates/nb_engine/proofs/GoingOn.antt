@@ -21,11 +21,11 @@ use Rattle.nb_journal.proofs.Callers.{found_answers, answers_more, ready_then}
 use Rattle.nb_tick.specs.Slots.{slot_of}
 use Rattle.nb_engine.specs.declared.refusal.Refusal.{Refusal}
 use Rattle.nb_engine.specs.Files.{init_file}
-use Rattle.nb_engine.specs.Frame.{EachImage, KeepsApart}
+use Rattle.nb_engine.specs.Frame.{EachImage, KeepsOutsideRun}
 use Rattle.nb_engine.specs.Histories.{IsDueAfter, History, run_of, ticks_of, IsHistory, legged}
 use Rattle.nb_engine.specs.Represents.{snap_of, RepresentsRun}
 use Rattle.nb_engine.specs.Sessions.{ticks_left, ticks_to, SessionLeads, OpenLeads, GoLeads, ResumeLeads, IsNoLeg}
-use Rattle.nb_engine.specs.Steps.{IsCheckpoint, IsPassed, GoesOn, HasPlayed, IsUpToDate}
+use Rattle.nb_engine.specs.Steps.{IsCheckpoint, IsOutsideTicks, GoesOn, HasPlayed, HoldsDueSnapshots}
 use Rattle.nb_engine.proofs.EachImages.{from_durable, leads_each, leads_from_durable}
 use Rattle.nb_engine.proofs.LongerLogs.{run-legged, ticks-legged, leads-away}
 use Rattle.nb_engine.proofs.LongerRuns.{due-shorter}
@@ -88,14 +88,14 @@ module _ {H : Type 0} (m : HostModel H) (target : ℕ) {h0 : H} (durable : IsDur
 
   module _ (journal : Counters) (found : IsTrue m.tells → IsFound journal ((m.contents h0).file journal_file)) where
     -- the session went on, whatever its images are
-    session_by_found : IsTrue m.tells → (image : Image) → KeepsApart (m.contents h0) image → SessionLeads (m.contents h0) image
+    session_by_found : IsTrue m.tells → (image : Image) → KeepsOutsideRun (m.contents h0) image → SessionLeads (m.contents h0) image
     session_by_found tells image apart = record {
       apart = apart;
       idle = λ none. let there = found tells in absurd (none there.log there.journal);
     }
 
     pub go_on : {h3 : H} → ((why : Refusal) → IsNoLeg target journal.progress why → ⊥) → target ≢ journal.progress.time
-        → Leads m KeepsApart h0 h3
+        → Leads m KeepsOutsideRun h0 h3
         → ((s : IsStanding (m.contents h0)) → EachImage m (Went target (m.contents h0) s) h0 h3)
         → Leads m (GoLeads m.crashes.is_honest target) h0 h3
     go_on none away leads each =
@@ -118,7 +118,7 @@ module _ {H : Type 0} (m : HostModel H) (target : ℕ) {h0 : H} (durable : IsDur
     -- calls that keep what is apart, and come no farther than to the snapshot that is due, where the last leg has ended
     abbrev pub Resumes : Image → Image → Type 0
     Resumes start image =
-        KeepsApart start image × (journal.progress.time ≡ journal.progress.target → OpenLeads start image)
+        KeepsOutsideRun start image × (journal.progress.time ≡ journal.progress.target → OpenLeads start image)
 
     pub resume_on : {h3 : H} → Leads m Resumes h0 h3
         → ((h : History) → IsHistory h → RepresentsRun h (m.contents h0)
@@ -174,7 +174,7 @@ pub leg_of : (target : ℕ) (h : History) (journal : Counters) → Answers h.log
     → IsNextLeg (progress_of h.log) target
 leg_of target h journal answers next = subst (λ (c : Counters). IsNextLeg c.progress target) answers next
 
-module _ {H : Type 0} (m : HostModel H) (target : ℕ) (h : History) (first : Image) (journal : Counters) {h1 : H} (begun : HasPlayed m 0 h first journal h1) (date : IsUpToDate m h h1) (next : IsNextLeg journal.progress target) where
+module _ {H : Type 0} (m : HostModel H) (target : ℕ) (h : History) (first : Image) (journal : Counters) {h1 : H} (begun : HasPlayed m 0 h first journal h1) (date : HoldsDueSnapshots m h h1) (next : IsNextLeg journal.progress target) where
   leg : IsNextLeg (progress_of h.log) target
   leg = leg_of target h journal begun.at.answers next
 
@@ -206,7 +206,7 @@ module _ {H : Type 0} (m : HostModel H) (target : ℕ) (h : History) (first : Im
             inr (
               both.0,
               goes_from {before = m.contents h1} (λ j within finished. begun.kept j (omega (arith, within, longer_ticks)) finished)
-                  (λ j passed. begun.others j (subst (λ (k : ℕ). IsPassed k 0 j) longer_ticks passed)) said_first (record {
+                  (λ j passed. begun.others j (subst (λ (k : ℕ). IsOutsideTicks k 0 j) longer_ticks passed)) said_first (record {
                     done = 0;
                     few = omega arith;
                     represents = both.1;
@@ -245,7 +245,7 @@ module _ {H : Type 0} (m : HostModel H) (target : ℕ) (h : History) (first : Im
     }
 
     -- a snapshot that is due with the leg was due without it
-    pub leg_date : IsUpToDate m (legged target h) h2
+    pub leg_date : HoldsDueSnapshots m (legged target h) h2
     leg_date j due within =
         let lawful = begun.at.represents.journal.journal.lawful in
         let up_to : j ≤ ticks_of h = omega (arith, within, ticks-legged target h) in
@@ -259,11 +259,11 @@ module _ {H : Type 0} (m : HostModel H) (target : ℕ) (h : History) (first : Im
         let up_to : j ≤ ticks_of h = omega (arith, within, ticks-legged target h) in
         other_file others (snap_of j) (omega arith) ∙ begun.kept j up_to finished
 
-    pub leg_others : (j : ℕ) → IsPassed (ticks_of (legged target h)) 0 j
+    pub leg_others : (j : ℕ) → IsOutsideTicks (ticks_of (legged target h)) 0 j
         → (m.contents h2).file (snap_of j) ≡ first.file (snap_of j)
     leg_others j passed =
         other_file others (snap_of j) (omega arith)
-        ∙ begun.others j (subst (λ (k : ℕ). IsPassed k 0 j) (ticks-legged target h) passed)
+        ∙ begun.others j (subst (λ (k : ℕ). IsOutsideTicks k 0 j) (ticks-legged target h) passed)
 
     pub leg_said : (m.contents h2).said channels.Out ≡ first.said channels.Out
     leg_said = ap (λ (f : Channel → List ℕ). f channels.Out) others.said ∙ said_first

@@ -11,13 +11,13 @@ use Rattle.nb_journal.specs.Counters.{Counters, Answers, counters_after}
 use Rattle.nb_journal.specs.declared.entry.Entry.{Entry}
 use Rattle.nb_journal.specs.declared.entry.Entry.TheVariants.{Leg, Tick}
 use Rattle.nb_journal.specs.Entries.{Progress, progress_after, after_all}
-use Rattle.nb_journal.specs.Form.{IsLawful, begun, progress_of}
+use Rattle.nb_journal.specs.Form.{IsLawful, initial_progress, progress_of}
 use Rattle.nb_engine.specs.declared.going.Done.{Done}
 use Rattle.nb_engine.specs.Files.{init_file}
-use Rattle.nb_engine.specs.Histories.{state_of, time_of, IsDueAfter, History, run_of, ticks_of, IsHistory, legged}
+use Rattle.nb_engine.specs.Histories.{state_at, time_at, IsDueAfter, History, run_of, ticks_of, IsHistory, legged}
 use Rattle.nb_engine.specs.Represents.{snap_of, Represents}
 use Rattle.nb_engine.specs.Sessions.{ticks_left, aimed_at, ticks_to, IsLed}
-use Rattle.nb_engine.specs.Steps.{played, IsCheckpoint, HasPlayed, IsUpToDate}
+use Rattle.nb_engine.specs.Steps.{played, IsCheckpoint, HasPlayed, HoldsDueSnapshots}
 use Rattle.nb_engine.proofs.DueNow.{due_by}
 use Rattle.nb_engine.proofs.LongerLogs.{ticks-ended}
 use Rattle.nb_engine.proofs.Paths.{time-now}
@@ -69,13 +69,13 @@ last_tick s (Tick number gone ∷ entries) = elim (last_tick (progress_after (Ti
 ]
 
 -- the journal tells how many bodies are out after the last tick
-pub gone-now : (h : History) → IsHistory h → (progress_of h.log).gone ≡ escaped_count (state_of (run_of h) (ticks_of h))
-gone-now h is = elim (last_tick (begun h.log) h.log.entries) [
+pub gone-now : (h : History) → IsHistory h → (progress_of h.log).gone ≡ escaped_count (state_at (run_of h) (ticks_of h))
+gone-now h is = elim (last_tick (initial_progress h.log) h.log.entries) [
   | inl last ↦
-      last.gone_is ∙ (is.told last.number last.gone last.there).gone_is
-      ∙ ap (λ (k : ℕ). escaped_count (state_of (run_of h) k)) (sym last.ticks)
+      last.gone_is ∙ (is.truthful last.number last.gone last.there).gone_is
+      ∙ ap (λ (k : ℕ). escaped_count (state_at (run_of h) k)) (sym last.ticks)
   | inr none ↦
-      none.gone_is ∙ is.gone ∙ ap (λ (k : ℕ). escaped_count (state_of (run_of h) k)) (sym none.ticks)
+      none.gone_is ∙ is.gone ∙ ap (λ (k : ℕ). escaped_count (state_at (run_of h) k)) (sym none.ticks)
 ]
 
 -- ---- back at the time of the begin
@@ -83,8 +83,8 @@ gone-now h is = elim (last_tick (begun h.log) h.log.entries) [
 -- what is known of finished snapshots of that time
 abbrev pub SnapshotIsBack : Type 0
 SnapshotIsBack = (h : History) (image : Image) (i : ℕ) → IsHistory h → Represents h.log (run_of h) (ticks_of h) image
-    → escaped_count (state_of (run_of h) (ticks_of h)) ≡ escaped_count h.bodies → 1 ≤ i → i ≤ ticks_of h
-    → time_of (run_of h) i ≡ h.log.begin_time → IsFinishedSnapshot (length h.bodies) (image.file (snap_of i))
+    → escaped_count (state_at (run_of h) (ticks_of h)) ≡ escaped_count h.bodies → 1 ≤ i → i ≤ ticks_of h
+    → time_at (run_of h) i ≡ h.log.begin_time → IsFinishedSnapshot (length h.bodies) (image.file (snap_of i))
     → image.file (snap_of i) ≡ image.file init_file
 
 begin_time-played : (n : ℕ) (h : History) → (played n h).log.begin_time ≡ h.log.begin_time
@@ -102,7 +102,7 @@ due_ended h lawful some ended = due_by h lawful (some, inr ended)
 
 -- So that of the last tick of a leg is the initial one.
 back_again : SnapshotIsBack → {H : Type 0} {m : HostModel H} (h : History) {journal : Counters} {host : H} → IsCheckpoint m h journal host
-    → IsUpToDate m h host → (progress_of h.log).time ≡ (progress_of h.log).target
+    → HoldsDueSnapshots m h host → (progress_of h.log).time ≡ (progress_of h.log).target
     → (progress_of h.log).time ≡ h.log.begin_time → 1 ≤ ticks_of h → (progress_of h.log).gone ≡ h.log.begin_gone
     → (m.contents host).file (snap_of (ticks_of h)) ≡ (m.contents host).file init_file
 back_again law {m = m} h {host = host} at date ended time some gone =
@@ -113,7 +113,7 @@ back_again law {m = m} h {host = host} at date ended time some gone =
 -- ---- at the end of a leg
 
 pub led : SnapshotIsBack → {H : Type 0} {m : HostModel H} {n : ℕ} {h : History} {first : Image} {journal : Counters} {host : H}
-    {done : Done} → HasPlayed m n h first journal host → IsUpToDate m (played n h) host → journal.progress.time ≡ journal.progress.target
+    {done : Done} → HasPlayed m n h first journal host → HoldsDueSnapshots m (played n h) host → journal.progress.time ≡ journal.progress.target
     → done.time ≡ journal.progress.time → done.ticks ≡ journal.progress.ticks → done.gone ≡ journal.progress.gone
     → IsLed n h first done (m.contents host)
 led law {m = m} {n = n} {h = h} {host = host} {done = done} has date ended time ticks gone =

@@ -8,9 +8,9 @@ use Rattle.nb_model.specs.Limits.{most_ticks}
 use Rattle.nb_journal.specs.declared.entry.Entry.{Entry}
 use Rattle.nb_journal.specs.declared.entry.Entry.TheVariants.{Leg, Tick}
 use Rattle.nb_journal.specs.Entries.{Progress, IsNextLeg, progress_after, after_all}
-use Rattle.nb_journal.specs.Form.{IsLawful, begun, progress_of}
+use Rattle.nb_journal.specs.Form.{IsLawful, initial_progress, progress_of}
 use Rattle.nb_journal.proofs.Callers.{progress-with_entry}
-use Rattle.nb_engine.specs.Histories.{state_of, length_of, IsRun, History, legs_in, run_of, ticks_of, IsHistory, next_tick, ticked, legged}
+use Rattle.nb_engine.specs.Histories.{state_at, run_length, IsRun, History, legs_in, run_of, ticks_of, IsHistory, next_tick, ticked, legged}
 use Rattle.nb_engine.proofs.LongerRuns.{end_of, longer, run-longer, state-longer}
 use Rattle.nb_engine.proofs.Paths.{told, ticks-within}
 use Rattle.nb_engine.proofs.Straight.{directions_to-later}
@@ -38,7 +38,7 @@ legs_in-tick (Tick other out ∷ entries) number gone = legs_in-tick entries num
 pub run-ticked : (h : History) → run_of (ticked h) ≡ run_of h
 run-ticked h =
     ap (λ legs. record (run_of h) { legs = legs })
-    (legs_in-tick h.log.entries (suc (ticks_of h)) (escaped_count (state_of (run_of h) (suc (ticks_of h)))))
+    (legs_in-tick h.log.entries (suc (ticks_of h)) (escaped_count (state_at (run_of h) (suc (ticks_of h)))))
 
 pub ticks-ticked : (h : History) → ticks_of (ticked h) ≡ suc (ticks_of h)
 ticks-ticked h = ap (λ s. s.ticks) (progress-with_entry h.log (next_tick h))
@@ -48,20 +48,20 @@ history-ticked h is = record {
   run = subst IsRun (sym (run-ticked h)) is.run;
   count = is.count;
   gone = is.gone;
-  told = λ number gone at. elim (Contains-push_cases h.log.entries (next_tick h) (Tick number gone) at) [
+  truthful = λ number gone at. elim (Contains-push_cases h.log.entries (next_tick h) (Tick number gone) at) [
     | inl before ↦
-        let was = is.told number gone before in
+        let was = is.truthful number gone before in
         record {
           done = omega (arith, was.done, ticks-ticked h);
-          gone_is = was.gone_is ∙ ap (λ run. escaped_count (state_of run number)) (sym (run-ticked h));
+          gone_is = was.gone_is ∙ ap (λ run. escaped_count (state_at run number)) (sym (run-ticked h));
         }
     | inr last ↦
         let here = ap number_in last in
         record {
           done = omega (arith, here, ticks-ticked h);
           gone_is =
-              sym (ap gone_in last) ∙ ap (λ k. escaped_count (state_of (run_of h) k)) here
-              ∙ ap (λ run. escaped_count (state_of run number)) (sym (run-ticked h));
+              sym (ap gone_in last) ∙ ap (λ k. escaped_count (state_at (run_of h) k)) here
+              ∙ ap (λ run. escaped_count (state_at run number)) (sym (run-ticked h));
         }
   ];
 }
@@ -88,11 +88,11 @@ target-end s (Tick number gone ∷ entries) = target-end (progress_after (Tick n
 -- The next leg leads away from where the run ends.
 pub leads-away : (target : ℕ) (h : History) → IsNextLeg (progress_of h.log) target
     → target ≢ end_of h.log.begin_time (legs_in h.log.entries)
-leads-away target h next same = next.apart (same ∙ sym (target-end (begun h.log) h.log.entries) ∙ sym next.ended)
+leads-away target h next same = next.apart (same ∙ sym (target-end (initial_progress h.log) h.log.entries) ∙ sym next.ended)
 
 -- A run whose last leg has ended has no ticks but those that are done.
 pub ticks-ended : (h : History) → IsLawful h.log → (progress_of h.log).time ≡ (progress_of h.log).target
-    → length_of (run_of h) ≡ ticks_of h
+    → run_length (run_of h) ≡ ticks_of h
 ticks-ended h lawful ended =
     let is = told h lawful in
     let now = progress_of h.log in
@@ -103,22 +103,22 @@ pub history-legged : (target : ℕ) (h : History) → IsLawful h.log → IsHisto
     → IsHistory (legged target h)
 history-legged target h lawful is next =
     let run = run_of h in
-    let end = target-end (begun h.log) h.log.entries in
-    let few : length_of run + abs_diff (end_of run.begin run.legs) target ≤ most_ticks =
+    let end = target-end (initial_progress h.log) h.log.entries in
+    let few : run_length run + abs_diff (end_of run.begin run.legs) target ≤ most_ticks =
     omega (arith, next.limit, next.ended, end, ticks-ended h lawful next.ended) in
     record {
       run = subst IsRun (sym (run-legged target h)) (run-longer target run is.run next.fits (leads-away target h next) few);
       count = is.count;
       gone = is.gone;
-      told = λ number gone at. elim (Contains-push_cases h.log.entries (Leg target) (Tick number gone) at) [
+      truthful = λ number gone at. elim (Contains-push_cases h.log.entries (Leg target) (Tick number gone) at) [
         | inl before ↦
-            let was = is.told number gone before in
+            let was = is.truthful number gone before in
             record {
               done = omega (arith, was.done, ticks-legged target h);
               gone_is =
                   was.gone_is ∙ ap escaped_count (sym (state-longer target run number
                   (omega (arith, was.done, ticks-within h lawful))))
-                  ∙ ap (λ r. escaped_count (state_of r number)) (sym (run-legged target h));
+                  ∙ ap (λ r. escaped_count (state_at r number)) (sym (run-legged target h));
             }
         | inr last ↦ absurd (true≢false (ap is_leg last))
       ];

@@ -7,9 +7,9 @@ use Rattle.std.proofs.lemmas.List.{take-append-le, take_all, length-replicate}
 use Rattle.std.proofs.lemmas.List.Elements.{All-push}
 use Rattle.nb_model.specs.declared.way.Way.TheVariants.{Forward, Back}
 use Rattle.nb_model.specs.Leapfrog.{steps}
-use Rattle.nb_model.specs.Legs.{directions_to, directions, time_by, EachLeads}
+use Rattle.nb_model.specs.Legs.{directions_to, directions, time_by, EachMoves}
 use Rattle.nb_model.specs.Limits.{most_ticks}
-use Rattle.nb_engine.specs.Histories.{Run, state_of, time_of, IsDueAfter, length_of, IsRun}
+use Rattle.nb_engine.specs.Histories.{Run, state_at, time_at, IsDueAfter, run_length, IsRun}
 
 -- the target of the last leg, or the time at the begin where there is no leg
 abbrev pub end_of : ℕ → List ℕ → ℕ
@@ -47,13 +47,13 @@ length-longer begin target legs =
       length-directions_to (end_of begin legs) target,
     )
 
-leads-longer : (begin target : ℕ) (legs : List ℕ) → EachLeads begin legs → target ≢ end_of begin legs
-    → EachLeads begin (legs ++ target ∷ [])
+leads-longer : (begin target : ℕ) (legs : List ℕ) → EachMoves begin legs → target ≢ end_of begin legs
+    → EachMoves begin (legs ++ target ∷ [])
 leads-longer begin target [] each apart = (apart, tt)
 leads-longer begin target (leg ∷ legs) each apart = (each.0, leads-longer leg target legs each.1 apart)
 
 pub run-longer : (target : ℕ) (run : Run) → IsRun run → target < 2 ^ 64 → target ≢ end_of run.begin run.legs
-    → length_of run + abs_diff (end_of run.begin run.legs) target ≤ most_ticks → IsRun (longer target run)
+    → run_length run + abs_diff (end_of run.begin run.legs) target ≤ most_ticks → IsRun (longer target run)
 run-longer target run is fits apart few = record {
   bodies = is.bodies;
   legs = record {
@@ -65,16 +65,16 @@ run-longer target run is fits apart few = record {
 
 -- ---- up to the end of the last leg
 
-take-longer : (target : ℕ) (run : Run) (k : ℕ) → k ≤ length_of run
+take-longer : (target : ℕ) (run : Run) (k : ℕ) → k ≤ run_length run
     → take k (directions run.begin (run.legs ++ target ∷ [])) ≡ take k (directions run.begin run.legs)
 take-longer target run k within =
     ap (take k) (directions-longer run.begin target run.legs)
     ∙ take-append-le k (directions run.begin run.legs) (directions_to (end_of run.begin run.legs) target) within
 
-pub state-longer : (target : ℕ) (run : Run) (k : ℕ) → k ≤ length_of run → state_of (longer target run) k ≡ state_of run k
+pub state-longer : (target : ℕ) (run : Run) (k : ℕ) → k ≤ run_length run → state_at (longer target run) k ≡ state_at run k
 state-longer target run k within = ap (λ ways. steps run.params ways run.bodies) (take-longer target run k within)
 
-pub time-longer : (target : ℕ) (run : Run) (k : ℕ) → k ≤ length_of run → time_of (longer target run) k ≡ time_of run k
+pub time-longer : (target : ℕ) (run : Run) (k : ℕ) → k ≤ run_length run → time_at (longer target run) k ≡ time_at run k
 time-longer target run k within = ap (time_by run.begin) (take-longer target run k within)
 
 -- what is due in a run is due in the longer one
@@ -101,7 +101,7 @@ due-longer target run k is = record {
 }
 
 -- and so is what is due in the longer one, up to the end of the last leg
-pub due-shorter : (target : ℕ) (run : Run) (k : ℕ) → target ≢ end_of run.begin run.legs → k ≤ length_of run
+pub due-shorter : (target : ℕ) (run : Run) (k : ℕ) → target ≢ end_of run.begin run.legs → k ≤ run_length run
     → IsDueAfter (longer target run) k → IsDueAfter run k
 due-shorter target run k apart within is = record {
   some = is.some;

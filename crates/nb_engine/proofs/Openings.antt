@@ -15,32 +15,32 @@ use Rattle.nb_journal.specs.Offsets.{journal_file}
 use Rattle.nb_journal.proofs.Callers.{found_answers}
 use Rattle.nb_engine.specs.declared.refusal.Refusal.{Refusal}
 use Rattle.nb_engine.specs.Due.{TellsDue}
-use Rattle.nb_engine.specs.Frame.{EachImage, IsApart, KeepsApart}
+use Rattle.nb_engine.specs.Frame.{EachImage, IsOutsideRun, KeepsOutsideRun}
 use Rattle.nb_engine.specs.Histories.{History, IsHistory}
 use Rattle.nb_engine.specs.Represents.{snap_of, RepresentsRun}
-use Rattle.nb_engine.specs.Sessions.{OpenLeads, IsSlotSpoilt}
+use Rattle.nb_engine.specs.Sessions.{OpenLeads, IsSlotDamaged}
 use Rattle.nb_engine.specs.Snapshots.{snapshot_files, FinishLeads}
-use Rattle.nb_engine.specs.Steps.{IsCheckpoint, IsSpoilt, GoesOn, HasPlayed, IsUpToDate, HasState}
+use Rattle.nb_engine.specs.Steps.{IsCheckpoint, IsStateDamaged, GoesOn, HasPlayed, HoldsDueSnapshots, HasState}
 use Rattle.nb_engine.proofs.EachImages.{durable_stays, from_durable, each_behind, each_told, leads_from_durable, SparedWhere, leads_spared}
 
 -- ---- steps
 
-pub apart_itself : (image : Image) → KeepsApart image image
+pub apart_itself : (image : Image) → KeepsOutsideRun image image
 apart_itself image = record { files = λ number is. refl; err = refl }
 
 -- no file of the ticks is apart
-not_apart : (k number : ℕ) → IsApart number → Contains (snapshot_files k) number → ⊥
+not_apart : (k number : ℕ) → IsOutsideRun number → Contains (snapshot_files k) number → ⊥
 not_apart k number apart (zero, below, is) = beside apart (omega (arith, is)) where
-  beside : IsApart number → number ≡ 6 → ⊥
+  beside : IsOutsideRun number → number ≡ 6 → ⊥
   beside (inl low) same = omega arith
   beside (inr high) same = absurd (omega (arith, high.0))
 not_apart k number apart (suc zero, below, is) = beside apart (omega (arith, is)) where
-  beside : IsApart number → 16 ≤ number → ⊥
+  beside : IsOutsideRun number → 16 ≤ number → ⊥
   beside (inl low) more = omega arith
   beside (inr high) more = absurd (omega (arith, high.1))
 not_apart k number apart (suc (suc i), below, is) = absurd (omega (arith, below))
 
-pub snapshot_apart : (k : ℕ) {old new : Image} → AgreesOutside (snapshot_files k) old new → KeepsApart old new
+pub snapshot_apart : (k : ℕ) {old new : Image} → AgreesOutside (snapshot_files k) old new → KeepsOutsideRun old new
 snapshot_apart k agrees = record {
   files = λ number is. agrees.others number (not_apart k number is);
   err = ap (λ (f : Channel → List ℕ). f channels.Err) agrees.said;
@@ -155,9 +155,9 @@ module _ {H : Type 0} (m : HostModel H) {h0 h1 h2 : H} (journal : Counters) (dur
 
   pub opened : {h3 : H} (due : Bool) → (IsTrue m.tells → (h : History) → Answers h.log journal
       → IsJournal h.log ((m.contents h1).file journal_file) → TellsDue h due)
-      → ((h : History) → TellsDue h due → IsCheckpoint m h journal h2 → HasPlayed m 0 h (m.contents h2) journal h3 × IsUpToDate m h h3)
+      → ((h : History) → TellsDue h due → IsCheckpoint m h journal h2 → HasPlayed m 0 h (m.contents h2) journal h3 × HoldsDueSnapshots m h h3)
       → IsTrue m.tells → (h : History) → IsHistory h → RepresentsRun h (m.contents h0)
-      → HasPlayed m 0 h (m.contents h0) journal h3 × IsUpToDate m h h3
+      → HasPlayed m 0 h (m.contents h0) journal h3 × HoldsDueSnapshots m h h3
   opened {h3 = h3} due tells_due finished tells h is represents =
       let at = at_begin tells h is represents in
       let now = tells_due tells h at.answers
@@ -166,14 +166,14 @@ module _ {H : Type 0} (m : HostModel H) {h0 h1 h2 : H} (journal : Counters) (dur
       (subst (λ (i : Image). HasPlayed m 0 h i journal h3) still done.0, done.1)
 
   -- a slot that is spoilt was so at the begin
-  pub spoilt_begin : IsTrue m.tells → {why : Refusal} → IsSpoilt m journal h2 why → IsSlotSpoilt (m.contents h0).file why
+  pub spoilt_begin : IsTrue m.tells → {why : Refusal} → IsStateDamaged m journal h2 why → IsSlotDamaged (m.contents h0).file why
   spoilt_begin tells spoilt =
       let there = found tells in
       record {
         log = there.log;
         journal = there.journal;
         page = spoilt.page;
-        shown = spoilt.shown;
+        named = spoilt.named;
         file = spoilt.file;
         cause = λ bodies has.
             spoilt.cause tells bodies

@@ -10,8 +10,8 @@ use Rattle.nb_model.specs.Legs.{directions_to, directions, time_by}
 use Rattle.nb_journal.specs.declared.entry.Entry.{Entry}
 use Rattle.nb_journal.specs.declared.entry.Entry.TheVariants.{Leg, Tick}
 use Rattle.nb_journal.specs.Entries.{Progress, AreLawful, toward, progress_after, after_all}
-use Rattle.nb_journal.specs.Form.{IsLawful, begun, progress_of}
-use Rattle.nb_engine.specs.Histories.{state_of, History, run_of, ticks_of, time_of, length_of, legs_in}
+use Rattle.nb_journal.specs.Form.{IsLawful, initial_progress, progress_of}
+use Rattle.nb_engine.specs.Histories.{state_at, History, run_of, ticks_of, time_at, run_length, legs_in}
 use Rattle.nb_engine.proofs.Heights.{forwards, backs, forwards-cons, backs-cons}
 use Rattle.nb_engine.proofs.Steps.{steps_append}
 use Rattle.nb_engine.proofs.Straight.{directions_to-later, directions_to-earlier}
@@ -120,7 +120,7 @@ pub record IsTold (h : History) : Type 0 where
 
 pub told : (h : History) → IsLawful h.log → IsTold h
 told h lawful =
-    let way = way_of h.log.count (begun h.log) h.log.entries lawful.entries in
+    let way = way_of h.log.count (initial_progress h.log) h.log.entries lawful.entries in
     let begin = h.log.begin_time in
     record {
       ways = way.ways;
@@ -130,13 +130,13 @@ told h lawful =
       time = way.time;
     }
 
-pub ticks-within : (h : History) → IsLawful h.log → ticks_of h ≤ length_of (run_of h)
+pub ticks-within : (h : History) → IsLawful h.log → ticks_of h ≤ run_length (run_of h)
 ticks-within h lawful =
     let is = told h lawful in
     let now = progress_of h.log in
     omega (arith, ap length is.all, is.ticks, length-append is.ways (directions_to now.time now.target))
 
-pub time-now : (h : History) → IsLawful h.log → (progress_of h.log).time ≡ time_of (run_of h) (ticks_of h)
+pub time-now : (h : History) → IsLawful h.log → (progress_of h.log).time ≡ time_at (run_of h) (ticks_of h)
 time-now h lawful =
     let is = told h lawful in
     let now = progress_of h.log in
@@ -153,7 +153,7 @@ time-now h lawful =
 next-state : (h : History) (way : Way) → IsLawful h.log
     → directions_to (progress_of h.log).time (progress_of h.log).target
     ≡ way ∷ directions_to (toward (progress_of h.log).time (progress_of h.log).target) (progress_of h.log).target
-    → state_of (run_of h) (suc (ticks_of h)) ≡ step h.log.params way (state_of (run_of h) (ticks_of h))
+    → state_at (run_of h) (suc (ticks_of h)) ≡ step h.log.params way (state_at (run_of h) (ticks_of h))
 next-state h way lawful ahead =
     let is = told h lawful in
     let now = progress_of h.log in
@@ -171,10 +171,10 @@ next-state h way lawful ahead =
     ∙ ap (λ ways. step run.params way (steps run.params ways run.bodies)) (sym done)
 
 pub state-forward : (h : History) → IsLawful h.log → (progress_of h.log).time < (progress_of h.log).target
-    → state_of (run_of h) (suc (ticks_of h)) ≡ step h.log.params Forward (state_of (run_of h) (ticks_of h))
+    → state_at (run_of h) (suc (ticks_of h)) ≡ step h.log.params Forward (state_at (run_of h) (ticks_of h))
 state-forward h lawful below = next-state h Forward lawful (ahead-forward (progress_of h.log).time
     (progress_of h.log).target below)
 
 pub state-back : (h : History) → IsLawful h.log → (progress_of h.log).target < (progress_of h.log).time
-    → state_of (run_of h) (suc (ticks_of h)) ≡ step h.log.params Back (state_of (run_of h) (ticks_of h))
+    → state_at (run_of h) (suc (ticks_of h)) ≡ step h.log.params Back (state_at (run_of h) (ticks_of h))
 state-back h lawful above = next-state h Back lawful (ahead-back (progress_of h.log).time (progress_of h.log).target above)

@@ -10,9 +10,9 @@ use Rattle.nb_format.specs.Snapshot.{IsFinishedSnapshot}
 use Rattle.nb_journal.specs.Counters.{Counters}
 use Rattle.nb_tick.specs.Slots.{cell_file}
 use Rattle.nb_tick.specs.State.{IsCellIndexOf}
-use Rattle.nb_engine.specs.Histories.{Run, state_of, History, run_of, ticks_of, IsHistory, ticked}
-use Rattle.nb_engine.specs.Represents.{snap_of, IsOpened, RepresentsRun}
-use Rattle.nb_engine.specs.Steps.{tick_line_of, lines_behind, SaidLinesOf, played, IsCheckpoint, IsPassed, GoesOn, HasPlayed}
+use Rattle.nb_engine.specs.Histories.{Run, state_at, History, run_of, ticks_of, IsHistory, ticked}
+use Rattle.nb_engine.specs.Represents.{snap_of, HasOpenGate, RepresentsRun}
+use Rattle.nb_engine.specs.Steps.{tick_line_of, lines_after, SaidLinesOf, played, IsCheckpoint, IsOutsideTicks, GoesOn, HasPlayed}
 use Rattle.nb_engine.proofs.LongerLogs.{run-ticked, ticks-ticked, history-ticked}
 
 -- ---- a history some ticks later
@@ -48,30 +48,30 @@ played-more n (suc k) h =
 -- ---- the lines of ticks
 
 pub lines-more : (run : Run) (k n m : ℕ)
-    → lines_behind run k (n + m) ≡ lines_behind run k n ++ lines_behind run (k + n) m
+    → lines_after run k (n + m) ≡ lines_after run k n ++ lines_after run (k + n) m
 lines-more run k n zero =
     let same : n + 0 ≡ n = omega arith in
-    ap (λ (i : ℕ). lines_behind run k i) same ∙ sym (append-nil (lines_behind run k n))
+    ap (λ (i : ℕ). lines_after run k i) same ∙ sym (append-nil (lines_after run k n))
 lines-more run k n (suc m) =
     let same : n + suc m ≡ suc (n + m) = omega arith in
     let number : k + (n + m) ≡ k + n + m = omega arith in
-    let first = lines_behind run k n in
-    let rest = lines_behind run (k + n) m in
-    ap (λ (i : ℕ). lines_behind run k i) same
-    ∙ ap (λ (i : ℕ). lines_behind run k (n + m) ++ tick_line_of run (suc i)) number
+    let first = lines_after run k n in
+    let rest = lines_after run (k + n) m in
+    ap (λ (i : ℕ). lines_after run k i) same
+    ∙ ap (λ (i : ℕ). lines_after run k (n + m) ++ tick_line_of run (suc i)) number
     ∙ ap (λ (lines : List ℕ). lines ++ tick_line_of run (suc (k + n + m))) (lines-more run k n m)
     ∙ append_assoc first rest (tick_line_of run (suc (k + n + m)))
 
 -- the same for the ticks behind a history
-pub lines-played : (h : History) (n m : ℕ) → lines_behind (run_of h) (ticks_of h) (n + m)
-    ≡ lines_behind (run_of h) (ticks_of h) n ++ lines_behind (run_of (played n h)) (ticks_of (played n h)) m
+pub lines-played : (h : History) (n m : ℕ) → lines_after (run_of h) (ticks_of h) (n + m)
+    ≡ lines_after (run_of h) (ticks_of h) n ++ lines_after (run_of (played n h)) (ticks_of (played n h)) m
 lines-played h n m =
     let run = run_of h in
     let k = ticks_of h in
     let number : k + n ≡ ticks_of (played n h) = omega (arith, ticks-played n h) in
     lines-more run k n m
-    ∙ ap (λ (i : ℕ). lines_behind run k n ++ lines_behind run i m) number
-    ∙ ap (λ (r : Run). lines_behind run k n ++ lines_behind r (ticks_of (played n h)) m) (sym (run-played n h))
+    ∙ ap (λ (i : ℕ). lines_after run k n ++ lines_after run i m) number
+    ∙ ap (λ (r : Run). lines_after run k n ++ lines_after r (ticks_of (played n h)) m) (sym (run-played n h))
 
 -- a front of the first
 pub said_first : (run : Run) (k n : ℕ) (line old new : List ℕ) → line ≡ tick_line_of run (suc k) → n ≤ length line
@@ -85,18 +85,18 @@ said_first run k n line old new is within said =
     )
 
 -- all of them
-said_whole : (run : Run) (k n : ℕ) (old new : List ℕ) → new ≡ old ++ lines_behind run k n → SaidLinesOf run k n old new
+said_whole : (run : Run) (k n : ℕ) (old new : List ℕ) → new ≡ old ++ lines_after run k n → SaidLinesOf run k n old new
 said_whole run k zero old new is = is ∙ append-nil old
 said_whole run k (suc n) old new is =
     let line = tick_line_of run (suc (k + n)) in
-    let lines = lines_behind run k n in (
+    let lines = lines_after run k n in (
       length line,
       omega arith,
       is ∙ sym (append_assoc old lines line) ∙ ap (λ (l : List ℕ). (old ++ lines) ++ l) (sym (take-length line)),
     )
 
 -- all of the first n, and those of more ticks but a part of the last
-said_then : (run : Run) (k n d : ℕ) (old middle new : List ℕ) → middle ≡ old ++ lines_behind run k n
+said_then : (run : Run) (k n d : ℕ) (old middle new : List ℕ) → middle ≡ old ++ lines_after run k n
     → SaidLinesOf run (k + n) d middle new → SaidLinesOf run k (n + d) old new
 said_then run k n zero old middle new here said =
     let none : n + 0 ≡ n = omega arith in
@@ -104,9 +104,9 @@ said_then run k n zero old middle new here said =
 said_then run k n (suc d) old middle new here said =
     let more : n + suc d ≡ suc (n + d) = omega arith in
     let number : k + n + d ≡ k + (n + d) = omega arith in
-    let rest = lines_behind run (k + n) d in
-    let lines : middle ++ rest ≡ old ++ lines_behind run k (n + d) =
-    ap (λ (l : List ℕ). l ++ rest) here ∙ append_assoc old (lines_behind run k n) rest
+    let rest = lines_after run (k + n) d in
+    let lines : middle ++ rest ≡ old ++ lines_after run k (n + d) =
+    ap (λ (l : List ℕ). l ++ rest) here ∙ append_assoc old (lines_after run k n) rest
     ∙ ap (λ (l : List ℕ). old ++ l) (sym (lines-more run k n d)) in
     let line : tick_line_of run (suc (k + n + d)) ≡ tick_line_of run (suc (k + (n + d))) =
     ap (λ (i : ℕ). tick_line_of run (suc i)) number in
@@ -114,22 +114,22 @@ said_then run k n (suc d) old middle new here said =
       said.0,
       subst (λ (l : List ℕ). said.0 ≤ length l) line said.1,
       said.2 ∙ ap (λ (l : List ℕ). l ++ take said.0 (tick_line_of run (suc (k + n + d)))) lines
-          ∙ ap (λ (l : List ℕ). (old ++ lines_behind run k (n + d)) ++ take said.0 l) line,
+          ∙ ap (λ (l : List ℕ). (old ++ lines_after run k (n + d)) ++ take said.0 l) line,
     )
 
 -- ---- ticks whose snapshot's name isn't written
 
-pub passed_apart : (k n j : ℕ) → IsPassed k n j → j ≢ k
+pub passed_apart : (k n j : ℕ) → IsOutsideTicks k n j → j ≢ k
 passed_apart k n j (inl before) same = omega (arith, before, same)
 passed_apart k n j (inr behind) same = omega (arith, behind, same)
 
 -- while fewer are taken
-pub passed_fewer : (k n more j : ℕ) → n ≤ more → IsPassed k more j → IsPassed k n j
+pub passed_fewer : (k n more j : ℕ) → n ≤ more → IsOutsideTicks k more j → IsOutsideTicks k n j
 passed_fewer k n more j fewer (inl before) = inl before
 passed_fewer k n more j fewer (inr behind) = inr (omega (arith, behind, fewer))
 
 -- while the last of them are taken
-passed_behind : (k n m all last j : ℕ) → last ≡ n + k → all ≡ n + m → IsPassed k all j → IsPassed last m j
+passed_behind : (k n m all last j : ℕ) → last ≡ n + k → all ≡ n + m → IsOutsideTicks k all j → IsOutsideTicks last m j
 passed_behind k n m all last j here both (inl before) = inl (omega (arith, before, here))
 passed_behind k n m all last j here both (inr behind) = inr (omega (arith, behind, here, both))
 
@@ -139,7 +139,7 @@ passed_behind k n m all last j here both (inr behind) = inr (omega (arith, behin
 pub goes_from : {most : ℕ} {h : History} {first before image : Image}
     → ((j : ℕ) → j ≤ ticks_of h → IsFinishedSnapshot (length h.bodies) (first.file (snap_of j))
     → before.file (snap_of j) ≡ first.file (snap_of j))
-    → ((j : ℕ) → IsPassed (ticks_of h) 0 j → before.file (snap_of j) ≡ first.file (snap_of j))
+    → ((j : ℕ) → IsOutsideTicks (ticks_of h) 0 j → before.file (snap_of j) ≡ first.file (snap_of j))
     → before.said channels.Out ≡ first.said channels.Out → GoesOn most h before image → GoesOn most h first image
 goes_from {most = most} {h = h} {first = first} {before = before} {image = image} kept others said goes = record {
   done = goes.done;
@@ -153,13 +153,13 @@ goes_from {most = most} {h = h} {first = first} {before = before} {image = image
     | inr last ↦ passed_fewer (ticks_of h) 0 most j (omega arith) last
   ]);
   said = subst (λ (bytes : List ℕ). SaidLinesOf (run_of h) (ticks_of h) goes.done bytes (image.said channels.Out)) said goes.said;
-  first = λ opened. goes.first opened ∙ ap (λ (bytes : List ℕ). bytes ++ lines_behind (run_of h) (ticks_of h) goes.done) said;
+  first = λ opened. goes.first opened ∙ ap (λ (bytes : List ℕ). bytes ++ lines_after (run_of h) (ticks_of h) goes.done) said;
 }
 
 pub played_from : {H : Type 0} {m : HostModel H} {n : ℕ} {h : History} {first before : Image} {journal : Counters} {host : H}
     → ((j : ℕ) → j ≤ ticks_of h → IsFinishedSnapshot (length h.bodies) (first.file (snap_of j))
     → before.file (snap_of j) ≡ first.file (snap_of j))
-    → ((j : ℕ) → IsPassed (ticks_of h) 0 j → before.file (snap_of j) ≡ first.file (snap_of j))
+    → ((j : ℕ) → IsOutsideTicks (ticks_of h) 0 j → before.file (snap_of j) ≡ first.file (snap_of j))
     → before.said channels.Out ≡ first.said channels.Out → HasPlayed m n h before journal host → HasPlayed m n h first journal host
 played_from {n = n} {h = h} {first = first} kept others said has = record {
   at = has.at;
@@ -167,7 +167,7 @@ played_from {n = n} {h = h} {first = first} kept others said has = record {
       let same = kept j within finished in
       has.kept j within (subst (IsFinishedSnapshot (length h.bodies)) (sym same) finished) ∙ same;
   others = λ j passed. has.others j passed ∙ others j (passed_fewer (ticks_of h) 0 n j (omega arith) passed);
-  said = has.said ∙ ap (λ (l : List ℕ). l ++ lines_behind (run_of h) (ticks_of h) n) said;
+  said = has.said ∙ ap (λ (l : List ℕ). l ++ lines_after (run_of h) (ticks_of h) n) said;
   cells = has.cells;
 }
 
@@ -244,10 +244,10 @@ goes_then m n most {h} {before} {image} {host = host} first later = record {
       (image.said channels.Out)) (run-played n h) later.said));
   first = λ opened.
       let here : ticks_of h + (n + later.done) ≡ ticks_of (played n h) + later.done = omega (arith, ticks-played n h) in
-      let lines = lines_behind (run_of (played n h)) (ticks_of (played n h)) later.done in
-      later.first (subst (λ (k : ℕ). IsOpened (image.file (snap_of k))) here opened)
+      let lines = lines_after (run_of (played n h)) (ticks_of (played n h)) later.done in
+      later.first (subst (λ (k : ℕ). HasOpenGate (image.file (snap_of k))) here opened)
       ∙ ap (λ (bytes : List ℕ). bytes ++ lines) first.said
-      ∙ append_assoc (before.said channels.Out) (lines_behind (run_of h) (ticks_of h) n) lines
+      ∙ append_assoc (before.said channels.Out) (lines_after (run_of h) (ticks_of h) n) lines
       ∙ ap (λ (bytes : List ℕ). before.said channels.Out ++ bytes) (sym (lines-played h n later.done));
 }
 
@@ -267,7 +267,7 @@ played_none m {h} {host = host} at = record {
 -- Those of another count, by the file of cells that they left.
 played_both : {H : Type 0} (m : HostModel H) (n k : ℕ) {h : History} {before : Image} {one two : Counters} {middle host : H}
     → HasPlayed m n h before one middle → HasPlayed m k (played n h) (m.contents middle) two host
-    → (n + k ≢ 0 → IsCellIndexOf h.log.params (state_of (run_of (played (n + k) h)) (ticks_of (played (n + k) h)))
+    → (n + k ≢ 0 → IsCellIndexOf h.log.params (state_at (run_of (played (n + k) h)) (ticks_of (played (n + k) h)))
     ((m.contents host).file cell_file))
     → HasPlayed m (n + k) h before two host
 played_both m n k {h} {before} {two = two} {middle = middle} {host = host} first second cells = record {
@@ -279,9 +279,9 @@ played_both m n k {h} {before} {two = two} {middle = middle} {host = host} first
       ∙ first.others j (passed_fewer (ticks_of h) n (n + k) j (omega arith) passed);
   said =
       second.said
-      ∙ ap (λ (said : List ℕ). said ++ lines_behind (run_of (played n h)) (ticks_of (played n h)) k) first.said
-      ∙ append_assoc (before.said channels.Out) (lines_behind (run_of h) (ticks_of h) n)
-      (lines_behind (run_of (played n h)) (ticks_of (played n h)) k)
+      ∙ ap (λ (said : List ℕ). said ++ lines_after (run_of (played n h)) (ticks_of (played n h)) k) first.said
+      ∙ append_assoc (before.said channels.Out) (lines_after (run_of h) (ticks_of h) n)
+      (lines_after (run_of (played n h)) (ticks_of (played n h)) k)
       ∙ ap (λ (lines : List ℕ). before.said channels.Out ++ lines) (sym (lines-played h n k));
   cells = cells;
 }
@@ -293,9 +293,9 @@ pub played_then : {H : Type 0} (m : HostModel H) (n k : ℕ) {h : History} {befo
 played_then m n k {h} {host = host} first second some =
     played_both m n k first second
     (λ _. let file = (m.contents host).file cell_file in
-    subst (λ (p : Params). IsCellIndexOf p (state_of (run_of (played (n + k) h)) (ticks_of (played (n + k) h))) file)
+    subst (λ (p : Params). IsCellIndexOf p (state_at (run_of (played (n + k) h)) (ticks_of (played (n + k) h))) file)
     (params-played n h)
-    (subst (λ (x : History). IsCellIndexOf (played n h).log.params (state_of (run_of x) (ticks_of x)) file)
+    (subst (λ (x : History). IsCellIndexOf (played n h).log.params (state_at (run_of x) (ticks_of x)) file)
     (played-more n k h) (second.cells some)))
 
 -- calls that end no tick and leave the file of cells
@@ -306,7 +306,7 @@ played_rest m n {h} {before} {two = two} {middle = middle} {host = host} first s
     let none : n + 0 ≡ n = omega arith in
     subst (λ (i : ℕ). HasPlayed m i h before two host) none
     (played_both m n 0 first second
-    (λ some. subst (λ (i : ℕ). IsCellIndexOf h.log.params (state_of (run_of (played i h)) (ticks_of (played i h)))
+    (λ some. subst (λ (i : ℕ). IsCellIndexOf h.log.params (state_at (run_of (played i h)) (ticks_of (played i h)))
     ((m.contents host).file cell_file)) (sym none)
-    (subst (IsCellIndexOf h.log.params (state_of (run_of (played n h)) (ticks_of (played n h)))) (sym same)
+    (subst (IsCellIndexOf h.log.params (state_at (run_of (played n h)) (ticks_of (played n h)))) (sym same)
     (first.cells (λ zero'. some (omega (arith, zero')))))))

@@ -10,10 +10,10 @@ use Rattle.nb_journal.specs.Entries.{IsNextLeg}
 use Rattle.nb_journal.specs.Form.{Log, IsCleanJournal, progress_of}
 use Rattle.nb_journal.specs.Offsets.{journal_file}
 use Rattle.nb_record.specs.Order.{by_key, sorted_by, HoldsBodies, HoldsKickedBodies}
-use Rattle.nb_engine.specs.Histories.{Run, state_of, time_of, length_of, History, run_of, ticks_of, IsHistory, ticked, legged}
+use Rattle.nb_engine.specs.Histories.{Run, state_at, time_at, run_length, History, run_of, ticks_of, IsHistory, ticked, legged}
 use Rattle.nb_tick.specs.Slots.{slot_of}
 use Rattle.nb_engine.specs.Files.{init_file}
-use Rattle.nb_engine.specs.Represents.{snap_of, IsOpened, IsSnapshotOf, Represents, RepresentsRun}
+use Rattle.nb_engine.specs.Represents.{snap_of, HasOpenGate, IsSnapshotOf, Represents, RepresentsRun}
 use Rattle.nb_engine.specs.Gates.{CanTick}
 use Rattle.nb_engine.proofs.LongerLogs.{run-ticked, ticks-ticked, history-ticked, run-legged, ticks-legged, leads-away, history-legged}
 use Rattle.nb_engine.proofs.LongerRuns.{end_of, longer, state-longer, time-longer, due-longer, due-shorter}
@@ -27,18 +27,18 @@ pub spared : (log : Log) (run : Run) (k : ℕ) (old new : Image) {before : Log} 
     → new.file (slot_of k) ≡ old.file (slot_of k) → ((j : ℕ) → 1 ≤ j → j ≤ k → new.file (snap_of j) ≡ old.file (snap_of j))
     → Represents log run k new
 spared log run k old new stands journal init slot snaps =
-    let list = sorted_by by_key (state_of run k) in
+    let list = sorted_by by_key (state_at run k) in
     record {
       journal = journal;
       start = subst (λ file. IsSnapshot file run.bodies run.begin) (sym init) stands.start;
       slot = subst (λ file. HoldsBodies file list) (sym slot) stands.slot;
-      kicks = λ some. subst (λ file. HoldsKickedBodies file (half_kick run.params (state_of run k)) list) (sym slot)
+      kicks = λ some. subst (λ file. HoldsKickedBodies file (half_kick run.params (state_at run k)) list) (sym slot)
           (stands.kicks some);
       finished = λ j due below.
           subst (IsFinishedSnapshot (length run.bodies)) (sym (snaps j due.some (omega arith))) (stands.finished j due below);
       right = λ j some within opened.
           let same = snaps j some within in
-          subst (IsSnapshotOf run j) (sym same) (stands.right j some within (subst IsOpened same opened));
+          subst (IsSnapshotOf run j) (sym same) (stands.right j some within (subst HasOpenGate same opened));
     }
 
 pub represents_kept : (h : History) (old new : Image) → RepresentsRun h old → new.file journal_file ≡ old.file journal_file
@@ -63,8 +63,8 @@ with_tick : (h : History) (log : Log) (before new : Image) → Represents h.log 
 with_tick h log before new stands can agrees journal =
     let run = run_of h in
     let k = ticks_of h in
-    let kick = half_kick run.params (state_of run (suc k)) in
-    let list = sorted_by by_key (state_of run (suc k)) in
+    let kick = half_kick run.params (state_at run (suc k)) in
+    let list = sorted_by by_key (state_at run (suc k)) in
     let same = other_file before new agrees in
     let slot = same (slot_of (suc k)) (omega arith) in
     record {
@@ -77,9 +77,9 @@ with_tick h log before new stands can agrees journal =
           (can.complete j due (omega arith));
       right = λ j some within opened.
           let snap = same (snap_of j) (omega arith) in
-          let was = subst IsOpened snap opened in
+          let was = subst HasOpenGate snap opened in
           elim (cases_eq j (suc k)) [
-            | inl last ↦ absurd (can.shut (subst (λ n. IsOpened (before.file (snap_of n))) last was))
+            | inl last ↦ absurd (can.shut (subst (λ n. HasOpenGate (before.file (snap_of n))) last was))
             | inr apart ↦ subst (IsSnapshotOf run j) (sym snap) (stands.right j some (omega arith) was)
           ];
     }
@@ -98,7 +98,7 @@ represents_ticked h before new is stands can agrees journal =
 -- ---- the gate of a leg
 
 -- up to the end of its last leg a run is what it is with a leg more
-with_leg : (log : Log) (run : Run) (target k : ℕ) (image : Image) → target ≢ end_of run.begin run.legs → k ≤ length_of run
+with_leg : (log : Log) (run : Run) (target k : ℕ) (image : Image) → target ≢ end_of run.begin run.legs → k ≤ run_length run
     → Represents log run k image → Represents log (longer target run) k image
 with_leg log run target k image apart within stands =
     let more = longer target run in
@@ -117,8 +117,8 @@ with_leg log run target k image apart within stands =
           record {
             due = due-longer target run j was.due;
             bytes =
-                subst (IsSnapshot file (state_of more j)) (sym (time-longer target run j (omega arith)))
-                (subst (λ list. IsSnapshot file list (time_of run j)) (sym (state-longer target run j (omega arith))) was.bytes);
+                subst (IsSnapshot file (state_at more j)) (sym (time-longer target run j (omega arith)))
+                (subst (λ list. IsSnapshot file list (time_at run j)) (sym (state-longer target run j (omega arith))) was.bytes);
           };
     }
 

@@ -14,12 +14,12 @@ use Rattle.nb_record.specs.Order.{by_key, sorted_by, HoldsBodies}
 use Rattle.nb_tick.specs.Slots.{slot_of}
 use Rattle.nb_engine.specs.declared.going.Done.{Done}
 use Rattle.nb_engine.specs.declared.refusal.Refusal.{Refusal}
-use Rattle.nb_engine.specs.Frame.{EachImage, KeepsApart}
+use Rattle.nb_engine.specs.Frame.{EachImage, KeepsOutsideRun}
 use Rattle.nb_engine.specs.Histories.{History, IsHistory}
 use Rattle.nb_engine.specs.Represents.{RepresentsRun}
-use Rattle.nb_engine.specs.Sessions.{ticks_left, IsLed, OpenLeads, ResumeLeads, IsSlotSpoilt}
+use Rattle.nb_engine.specs.Sessions.{ticks_left, IsLed, OpenLeads, ResumeLeads, IsSlotDamaged}
 use Rattle.nb_engine.specs.Snapshots.{snapshot_files}
-use Rattle.nb_engine.specs.Steps.{played, IsCheckpoint, GoesOn, HasPlayed, IsUpToDate, HasState, IsSpoilt}
+use Rattle.nb_engine.specs.Steps.{played, IsCheckpoint, GoesOn, HasPlayed, HoldsDueSnapshots, HasState, IsStateDamaged}
 use Rattle.nb_engine.proofs.Departures.{apart_both, open_apart}
 use Rattle.nb_engine.proofs.EachImages.{each_then, each_told}
 use Rattle.nb_engine.proofs.GoingOn.{resume_on, said_begun}
@@ -42,14 +42,14 @@ module _ {H : Type 0} (m : HostModel H) {h0 h1 : H} (journal : Counters) where
 
   -- a slot that is spoilt behind the begin was so before
   pub spoilt_open : (found : IsTrue m.tells → IsFound journal ((m.contents h0).file journal_file)) → Leads m OpenLeads h0 h1
-      → IsTrue m.tells → {why : Refusal} → IsSpoilt m journal h1 why → IsSlotSpoilt (m.contents h0).file why
+      → IsTrue m.tells → {why : Refusal} → IsStateDamaged m journal h1 why → IsSlotDamaged (m.contents h0).file why
   spoilt_open found leads tells spoilt =
       let there = found tells in
       record {
         log = there.log;
         journal = there.journal;
         page = spoilt.page;
-        shown = spoilt.shown;
+        named = spoilt.named;
         file = spoilt.file;
         cause = λ bodies has.
             let own = subst (λ (c : Counters). HasState c bodies (m.contents h0).file) (sym there.answers) has in
@@ -62,9 +62,9 @@ module _ {H : Type 0} (m : HostModel H) {h0 h1 : H} (journal : Counters) where
       }
 
   -- what is apart stays, and where the last leg has ended all that came behind the begin
-  resumes : {h2 : H} → Leads m OpenLeads h0 h1 → Leads m KeepsApart h1 h2
+  resumes : {h2 : H} → Leads m OpenLeads h0 h1 → Leads m KeepsOutsideRun h1 h2
       → (journal.progress.time ≡ journal.progress.target → Leads m Stays h1 h2)
-      → Leads m (λ start image. KeepsApart start image × (journal.progress.time ≡ journal.progress.target → OpenLeads start image))
+      → Leads m (λ start image. KeepsOutsideRun start image × (journal.progress.time ≡ journal.progress.target → OpenLeads start image))
       h0 h2
   resumes leads1 leads2 still2 = elim (cases_eq journal.progress.time journal.progress.target) [
     | inl ended ↦
@@ -81,9 +81,9 @@ module _ {H : Type 0} (m : HostModel H) {h0 h1 : H} (journal : Counters) where
       → Leads m OpenLeads h0 h1
       → ((h : History) → IsHistory h → RepresentsRun h (m.contents h0) → EachImage m (GoesOn 0 h (m.contents h0)) h0 h1)
       → (IsTrue m.tells → (h : History) → IsHistory h → RepresentsRun h (m.contents h0)
-      → HasPlayed m 0 h (m.contents h0) journal h1 × IsUpToDate m h h1)
-      → Leads m KeepsApart h1 h2 → (journal.progress.time ≡ journal.progress.target → Leads m Stays h1 h2)
-      → ((h : History) → IsCheckpoint m h journal h1 → IsUpToDate m h h1
+      → HasPlayed m 0 h (m.contents h0) journal h1 × HoldsDueSnapshots m h h1)
+      → Leads m KeepsOutsideRun h1 h2 → (journal.progress.time ≡ journal.progress.target → Leads m Stays h1 h2)
+      → ((h : History) → IsCheckpoint m h journal h1 → HoldsDueSnapshots m h h1
       → EachImage m (GoesOn (ticks_left journal.progress) h (m.contents h1)) h1 h2)
       → Leads m (ResumeLeads m.crashes.is_honest) h0 h2
   resumed {h2 = h2} durable found leads1 each1 begun leads2 still2 each2 =
@@ -101,15 +101,15 @@ module _ {H : Type 0} (m : HostModel H) {h0 h1 : H} (journal : Counters) where
   -- it was run to its end
   pub led_to_end : SnapshotIsBack → {h2 : H} {journal2 : Counters} {done : Done}
       → (IsTrue m.tells → (h : History) → IsHistory h → RepresentsRun h (m.contents h0)
-      → HasPlayed m 0 h (m.contents h0) journal h1 × IsUpToDate m h h1)
-      → ((h : History) → IsCheckpoint m h journal h1 → IsUpToDate m h h1
+      → HasPlayed m 0 h (m.contents h0) journal h1 × HoldsDueSnapshots m h h1)
+      → ((h : History) → IsCheckpoint m h journal h1 → HoldsDueSnapshots m h h1
       → HasPlayed m (ticks_left journal.progress) h (m.contents h1) journal2 h2
-      × IsUpToDate m (played (ticks_left journal.progress) h) h2)
+      × HoldsDueSnapshots m (played (ticks_left journal.progress) h) h2)
       → journal2.progress.time ≡ journal2.progress.target → done.time ≡ journal2.progress.time
       → done.ticks ≡ journal2.progress.ticks → done.gone ≡ journal2.progress.gone → IsTrue m.tells → (h : History) → IsHistory h
       → RepresentsRun h (m.contents h0) → IsLed (ticks_left (progress_of h.log)) h (m.contents h0) done (m.contents h2)
   led_to_end law {h2 = h2} {journal2 = journal2} begun run ended time ticks gone tells h is represents =
       let has = begun tells h is represents in
-      let here = subst (λ (n : ℕ). HasPlayed m n h (m.contents h1) journal2 h2 × IsUpToDate m (played n h) h2)
+      let here = subst (λ (n : ℕ). HasPlayed m n h (m.contents h1) journal2 h2 × HoldsDueSnapshots m (played n h) h2)
       (left_of h journal has.0.at.answers) (run h has.0.at has.1) in
       led law (played_from {before = m.contents h1} has.0.kept has.0.others (said_begun has.0) here.0) here.1 ended time ticks gone

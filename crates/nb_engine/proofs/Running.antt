@@ -10,17 +10,17 @@ use Rattle.nb_journal.specs.declared.entry.Entry.TheVariants.{Tick}
 use Rattle.nb_journal.specs.Counters.{Counters, counters_after}
 use Rattle.nb_engine.specs.declared.refusal.Refusal.{Refusal}
 use Rattle.nb_engine.specs.declared.refusal.Refusal.TheVariants as refusal
-use Rattle.nb_engine.specs.Frame.{EachImage, KeepsApart, RanSession}
+use Rattle.nb_engine.specs.Frame.{EachImage, KeepsOutsideRun, RanSession}
 use Rattle.nb_engine.specs.Histories.{History, ticked}
 use Rattle.nb_engine.specs.Sessions.{ticks_left}
-use Rattle.nb_engine.specs.Steps.{played, IsCheckpoint, IsFlushed, HasState, GoesOn, HasPlayed, IsUpToDate}
+use Rattle.nb_engine.specs.Steps.{played, IsCheckpoint, IsFlushed, HasState, GoesOn, HasPlayed, HoldsDueSnapshots}
 use Rattle.nb_engine.proofs.DueNow.{nearer}
 use Rattle.nb_engine.proofs.EachImages.{each_none, each_weaker, each_then}
 use Rattle.nb_engine.proofs.Frames.{session_none, session_then, session_as}
 use Rattle.nb_engine.proofs.Played.{played-more, goes_none, goes_more, goes_then, played_none, played_then}
 use Rattle.nb_engine.proofs.TickImages.{keeps_again}
 
-keeps_itself : (image : Image) → KeepsApart image image
+keeps_itself : (image : Image) → KeepsOutsideRun image image
 keeps_itself image = record { files = λ number apart. refl; err = refl }
 
 -- ---- so many ticks of a leg
@@ -29,23 +29,23 @@ keeps_itself image = record { files = λ number apart. refl; err = refl }
 pub record HasRun {H : Type 0} (m : HostModel H) (n : ℕ) (start journal : Counters) (cache : CacheValue) (old host : H) : Type 0 where
   pub settled : IsFlushed m cache host
   pub durable : IsDurable m old → IsDurable m host
-  pub ran : RanSession {T = Unit {0}} m KeepsApart old host (Ok tt)
+  pub ran : RanSession {T = Unit {0}} m KeepsOutsideRun old host (Ok tt)
   pub left : ticks_left journal.progress + n ≡ ticks_left start.progress
   pub target : journal.progress.target ≡ start.progress.target
   pub still : n ≡ 0 → Leads m Stays old host
   pub state : IsTrue m.tells → (bodies : List Body) → HasState start bodies (m.contents old).file
       → (later : List Body) × HasState journal later (m.contents host).file
-  pub plays : (h : History) → IsCheckpoint m h start old → IsUpToDate m h old
-      → HasPlayed m n h (m.contents old) journal host × IsUpToDate m (played n h) host
-  pub images : (h : History) → IsCheckpoint m h start old → IsUpToDate m h old
+  pub plays : (h : History) → IsCheckpoint m h start old → HoldsDueSnapshots m h old
+      → HasPlayed m n h (m.contents old) journal host × HoldsDueSnapshots m (played n h) host
+  pub images : (h : History) → IsCheckpoint m h start old → HoldsDueSnapshots m h old
       → EachImage m (GoesOn n h (m.contents old)) old host
 
 -- What a tick leaves.
 pub record HasStepped {H : Type 0} (m : HostModel H) (journal next : Counters) (old host : H) : Type 0 where
   pub lasts : IsDurable m host
   pub counters : (gone : ℕ) × (next ≡ counters_after (Tick (suc journal.progress.ticks) gone) journal)
-  pub one : (h : History) → IsCheckpoint m h journal old → IsUpToDate m h old
-      → HasPlayed m 1 h (m.contents old) next host × IsUpToDate m (ticked h) host
+  pub one : (h : History) → IsCheckpoint m h journal old → HoldsDueSnapshots m h old
+      → HasPlayed m 1 h (m.contents old) next host × HoldsDueSnapshots m (ticked h) host
   pub next_state : IsTrue m.tells → (bodies : List Body) → HasState journal bodies (m.contents old).file
       → (later : List Body) × HasState next later (m.contents host).file
 
@@ -70,8 +70,8 @@ run_none m journal cache host settled = record {
 
 -- the session of the ticks, with one more that perhaps was refused
 pub run_then : {H T : Type 0} {m : HostModel H} {n : ℕ} {start journal : Counters} {cache : CacheValue} {old middle host : H}
-    {result : Result T Refusal} → HasRun m n start journal cache old middle → RanSession m KeepsApart middle host result
-    → RanSession m KeepsApart old host result
+    {result : Result T Refusal} → HasRun m n start journal cache old middle → RanSession m KeepsOutsideRun middle host result
+    → RanSession m KeepsOutsideRun old host result
 run_then run ran =
     session_then refl run.ran ran
     (leads_again (λ start between image first second. keeps_again first second) run.ran.leads ran.leads)
@@ -79,9 +79,9 @@ run_then run ran =
 -- the images of the ticks and of one more, perhaps in part
 pub run_images : {H : Type 0} {m : HostModel H} (n : ℕ) {start journal : Counters} {cache : CacheValue} {old middle host : H}
     → HasRun m n start journal cache old middle
-    → ((h : History) → IsCheckpoint m h journal middle → IsUpToDate m h middle
+    → ((h : History) → IsCheckpoint m h journal middle → HoldsDueSnapshots m h middle
     → EachImage m (GoesOn 1 h (m.contents middle)) middle host)
-    → (h : History) → IsCheckpoint m h start old → IsUpToDate m h old → EachImage m (GoesOn (n + 1) h (m.contents old)) old host
+    → (h : History) → IsCheckpoint m h start old → HoldsDueSnapshots m h old → EachImage m (GoesOn (n + 1) h (m.contents old)) old host
 run_images {m = m} n {old = old} {middle = middle} run images h at up =
     let done = run.plays h at up in
     let before = m.contents old in
@@ -117,9 +117,9 @@ is_apart run some = λ same. omega (arith, run.left)
 pub run_more : {H T : Type 0} {m : HostModel H} (n : ℕ) {start journal next : Counters} {cache more : CacheValue}
     {old middle host : H} {result : Result T Refusal} → HasRun m n start journal cache old middle
     → n < ticks_left start.progress → IsOk result → IsFlushed m more host → HasStepped m journal next middle host
-    → ((h : History) → IsCheckpoint m h journal middle → IsUpToDate m h middle
+    → ((h : History) → IsCheckpoint m h journal middle → HoldsDueSnapshots m h middle
     → EachImage m (GoesOn 1 h (m.contents middle)) middle host)
-    → RanSession m KeepsApart middle host result → HasRun m (n + 1) start next more old host
+    → RanSession m KeepsOutsideRun middle host result → HasRun m (n + 1) start next more old host
 run_more {m = m} n {start} {journal} {next} {old = old} {middle = middle} {host = host} run some ok settled stepped images ran = record {
   settled = settled;
   durable = λ is. stepped.lasts;
@@ -134,7 +134,7 @@ run_more {m = m} n {start} {journal} {next} {old = old} {middle = middle} {host 
       let done = run.plays h at up in
       let last = stepped.one (played n h) done.0.at done.1 in (
         played_then m n 1 done.0 last.0 (omega arith),
-        subst (λ (x : History). IsUpToDate m x host) (played-more n 1 h) last.1,
+        subst (λ (x : History). HoldsDueSnapshots m x host) (played-more n 1 h) last.1,
       );
   images = run_images n run images;
 }

@@ -15,7 +15,7 @@ use Rattle.nb_host.proofs.Callers.{stays_contents}
 use Rattle.nb_format.specs.declared.snap_error.SnapError.{SnapError}
 use Rattle.nb_format.specs.declared.snap_error.SnapError.TheVariants as snap
 use Rattle.nb_format.specs.declared.snap_reader.SnapReader.{SnapReader}
-use Rattle.nb_format.specs.Reader.{file_of, count_of, time_of, read_count, IsAtStart, MayFollow, IsBehind, HasRead, IsOpenNow}
+use Rattle.nb_format.specs.Reader.{file_of, count_of, time_of, read_count, IsAtStart, MayFollow, IsBehind, HasRead, IsReadableNow}
 use Rattle.nb_format.specs.Snapshot.{IsHeader, IsSnapshot}
 use Rattle.nb_format.specs.SnapshotRefusal.{snapshot_refusal, IsBySnapshot}
 use Rattle.nb_format.proofs.Reading.{read_header}
@@ -35,12 +35,12 @@ use Rattle.nb_tick.specs.Slots.{drifted_file}
 use Rattle.nb_engine.specs.declared.init_file.Census.{Census}
 use Rattle.nb_engine.specs.declared.refusal.Refusal.{Refusal}
 use Rattle.nb_engine.specs.declared.refusal.Refusal.TheVariants as refusal
-use Rattle.nb_engine.specs.declared.run_start.Plan.{Plan}
+use Rattle.nb_engine.specs.declared.run_start.StartPlan.{StartPlan}
 use Rattle.nb_engine.specs.Files.{init_file}
 use Rattle.nb_engine.specs.Reading.{census_of, IsPlanned}
 use Rattle.nb_engine.specs.Refusal.{NeedsNoCause, of_second_reading, of_cache, of_order}
-use Rattle.nb_engine.specs.Snapshots.{IsBroken}
-use Rattle.nb_engine.specs.Start.{place_of_body, IsCopyEnd, IsReadPlace}
+use Rattle.nb_engine.specs.Snapshots.{IsPageDamaged}
+use Rattle.nb_engine.specs.Start.{init_record_name, IsCopyEnd, IsReadPlace}
 use Rattle.nb_engine.proofs.CachedCalls.{WentWell}
 use Rattle.nb_engine.proofs.Reading.{HasGiven, HasGiven-more, IsFrontOf-same}
 use Rattle.nb_engine.proofs.Surveys.{census-more}
@@ -72,33 +72,27 @@ cache_is_fault cache.Fault is = refl
 cache_is_fault cache.NoMemory is = absurd (cc)
 cache_is_fault (cache.Short name) is = absurd (cc)
 
--- A cache's refusal that tells of no page needs no cause.
-pub cache_needless : (error : CacheError) → ((name : PageName) → error ≡ cache.Short name → ⊥) → NeedsNoCause (of_cache error)
-cache_needless cache.Fault no_page = inl refl
-cache_needless cache.NoMemory no_page = inr refl
-cache_needless (cache.Short name) no_page = absurd (no_page name refl)
-
 -- the initial snapshot isn't what it was
 pub init_broken : {H : Type 0} {m : HostModel H} (IsPage : PageName → Type 0) (Holds : List Body → Type 0) (index : ℕ)
-    → IsPage (place_of_body index) → (IsTrue m.tells → (bodies : List Body) → Holds bodies → ⊥)
-    → IsBroken m IsPage Holds (refusal.Damaged (place_of_body index))
+    → IsPage (init_record_name index) → (IsTrue m.tells → (bodies : List Body) → Holds bodies → ⊥)
+    → IsPageDamaged m IsPage Holds (refusal.Damaged (init_record_name index))
 init_broken IsPage Holds index place never = record {
-  page = place_of_body index;
-  shown = refl;
+  page = init_record_name index;
+  named = refl;
   place = place;
   cause = never;
 }
 
 -- one of these pages is one of those, and who holds more holds less
 pub cause_more : {H : Type 0} {m : HostModel H} (These Those : PageName → Type 0) (Few More : List Body → Type 0) {why : Refusal}
-    → NeedsNoCause why ⊎ IsBroken m These Few why → ((page : PageName) → These page → Those page)
-    → (IsTrue m.tells → (bodies : List Body) → More bodies → Few bodies) → NeedsNoCause why ⊎ IsBroken m Those More why
+    → NeedsNoCause why ⊎ IsPageDamaged m These Few why → ((page : PageName) → These page → Those page)
+    → (IsTrue m.tells → (bodies : List Body) → More bodies → Few bodies) → NeedsNoCause why ⊎ IsPageDamaged m Those More why
 cause_more These Those Few More cause those more = elim cause [
   | inl needless ↦ inl needless
   | inr broken ↦
       inr (record {
         page = broken.page;
-        shown = broken.shown;
+        named = broken.named;
         place = those broken.page broken.place;
         cause = λ tells bodies holds. broken.cause tells bodies (more tells bodies holds);
       })
@@ -106,9 +100,9 @@ cause_more These Those Few More cause those more = elim cause [
 
 -- why a reader's refusal of a second reading is one
 pub second_cause : {H : Type 0} {m : HostModel H} (IsPage : PageName → Type 0) (Holds : List Body → Type 0) (error : SnapError)
-    (index : ℕ) → (IsBySnapshot error → IsPage (place_of_body index))
+    (index : ℕ) → (IsBySnapshot error → IsPage (init_record_name index))
     → (IsBySnapshot error → IsTrue m.tells → (bodies : List Body) → Holds bodies → ⊥)
-    → NeedsNoCause (of_second_reading error index) ⊎ IsBroken m IsPage Holds (of_second_reading error index)
+    → NeedsNoCause (of_second_reading error index) ⊎ IsPageDamaged m IsPage Holds (of_second_reading error index)
 second_cause IsPage Holds snap.Fault index place never = inl (inl refl)
 second_cause IsPage Holds snap.NoMemory index place never = inl (inr refl)
 second_cause IsPage Holds snap.Short index place never = inr (init_broken IsPage Holds index (place tt) (never tt))
@@ -132,12 +126,12 @@ refused_never {file} {error} refused = no_snapshot file error refused
 pub order_cause : {H : Type 0} {m : HostModel H} (IsPage : PageName → Type 0) (Holds : List Body → Type 0) (error : OrderError)
     → ((name : PageName) → error ≡ order.Damaged name
     → IsPage name × (IsTrue m.tells → (bodies : List Body) → Holds bodies → ⊥))
-    → NeedsNoCause (of_order error) ⊎ IsBroken m IsPage Holds (of_order error)
+    → NeedsNoCause (of_order error) ⊎ IsPageDamaged m IsPage Holds (of_order error)
 order_cause IsPage Holds order.Fault damaged = inl (inl refl)
 order_cause IsPage Holds order.NoMemory damaged = inl (inr refl)
 order_cause IsPage Holds (order.Damaged name) damaged =
     let known = damaged name refl in
-    inr (record { page = name; shown = refl; place = known.0; cause = known.1 })
+    inr (record { page = name; named = refl; place = known.0; cause = known.1 })
 
 -- a body at which a copy ends is one of those that are read
 pub end_read : {H : Type 0} {m : HostModel H} {reader : SnapReader} {cache : CacheValue} {host : H} {count : ℕ}
@@ -212,7 +206,7 @@ open_still {m = m} {host = host} only begun copied tells =
 pub open_now : {H : Type 0} {m : HostModel H} {start reader : SnapReader} {census : Census}
     {old_cache cache : CacheValue} {old host : H}
     → IsReadOnly old_cache → IsAtStart init_file start → HasCopied m start old_cache old reader census cache host
-    → IsOpenNow m reader ((m.contents old).file init_file) host
+    → IsReadableNow m reader ((m.contents old).file init_file) host
 open_now only begun copied = record {
   reads = λ tells. IsFrontOf-same _ (sym (open_still only begun copied tells));
   images = λ image honest is. tt;
@@ -254,7 +248,7 @@ pub copied_more : {H : Type 0} {m : HostModel H} {start reader next : SnapReader
     {old_cache cache new_cache : CacheValue} {old host middle new : H} (body : Body) {kick : V3} → IsReadOnly old_cache
     → IsAtStart init_file start → (copied : HasCopied m start old_cache old reader census cache host)
     → read_count reader ≢ count_of reader → MayFollow reader body → IsBehind body reader next
-    → ((bytes : List ℕ) (bodies : List Body) → IsTrue m.tells → HasRead reader bytes bodies → IsOpenNow m reader bytes host
+    → ((bytes : List ℕ) (bodies : List Body) → IsTrue m.tells → HasRead reader bytes bodies → IsReadableNow m reader bytes host
     → HasRead next bytes (bodies ++ body ∷ []))
     → Leads m Stays host middle → Seen m drifted_file (HasPushed census.count body kick) cache middle new_cache new
     → WentWell m (drifted_file ∷ []) old_cache old new_cache new
@@ -295,13 +289,13 @@ init_again only writes leads tells =
     ap (λ (i : Image). i.file init_file) (stays_contents leads) ∙ init_stays only writes tells
 
 -- What is read of a file that reads as it did is what the run is planned with.
-pub read_same : {plan : Plan} {bodies copied : List Body} {first second : List ℕ} {time : ℕ} → second ≡ first
+pub read_same : {plan : StartPlan} {bodies copied : List Body} {first second : List ℕ} {time : ℕ} → second ≡ first
     → IsPlanned plan bodies first → IsSnapshot second copied time → copied ≡ bodies
 read_same {copied = copied} {time = time} same planned read =
     (one_snapshot (subst (λ file. IsSnapshot file copied time) same read) planned.snapshot).0
 
 -- so the census is the plan's
-pub census_same : {plan : Plan} {bodies copied : List Body} {census : Census} {first second : List ℕ} {time : ℕ} → second ≡ first
+pub census_same : {plan : StartPlan} {bodies copied : List Body} {census : Census} {first second : List ℕ} {time : ℕ} → second ≡ first
     → IsPlanned plan bodies first → IsSnapshot second copied time → census ≡ census_of copied → census ≡ plan.census
 census_same same planned read is = is ∙ ap census_of (read_same same planned read) ∙ sym planned.census
 

@@ -20,7 +20,7 @@ use Rattle.nb_format.specs.declared.snap_writer.Filling.{Filling}
 use Rattle.nb_format.specs.Images.{IsShutNow, IsBeingWritten, ChangesWith, IsWritten}
 use Rattle.nb_format.specs.Reader.{last_of}
 use Rattle.nb_format.specs.Snapshot.{IsSnapshot, IsFinishedSnapshot}
-use Rattle.nb_format.specs.Writer.{Plan, plan_of, added_count, last_added, IsEmptyFilling, HasOneMore, HasFilled, IsBegun, StaysShut, StaysUnfinished, IsFinishedAs, Closes}
+use Rattle.nb_format.specs.Writer.{SnapshotPlan, plan_of, added_count, last_added, IsEmptyFilling, HasOneMore, HasFilled, IsBegun, StaysShut, StaysUnfinished, IsFinishedAs, Closes}
 use Rattle.nb_format.proofs.Callers.{being_begun, add_leads, being_added, being_kept, close_leads}
 use Rattle.nb_format.proofs.Reading.{last_of-push}
 use Rattle.nb_cache.specs.InStep.{IsCachedFile}
@@ -33,7 +33,7 @@ use Rattle.nb_record.proofs.Callers.{permuted, length-sorted_by, different_ids, 
 use Rattle.nb_order.specs.declared.order_error.OrderError.{OrderError}
 use Rattle.nb_order.specs.declared.order_error.OrderError.TheVariants as order
 use Rattle.nb_order.specs.Files.{page_of_body, HasBody, IsSortedCopy}
-use Rattle.nb_order.specs.Refusals.{IsNoBody, IsUnsorted}
+use Rattle.nb_order.specs.Refusals.{IsNoBody, IsSortRefused}
 use Rattle.nb_tick.specs.Slots.{slot_of, sorted_file}
 use Rattle.nb_tick.proofs.Callers.{seen_written}
 use Rattle.nb_journal.specs.Counters.{Counters}
@@ -42,7 +42,7 @@ use Rattle.nb_engine.specs.declared.refusal.Refusal.TheVariants as refusal
 use Rattle.nb_engine.specs.Frame.{RanSession}
 use Rattle.nb_engine.specs.Refusal.{of_host, of_order, NeedsNoCause}
 use Rattle.nb_engine.specs.Represents.{snap_of}
-use Rattle.nb_engine.specs.Snapshots.{snapshot_files, HoldsByIds, HoldsByKeys, EndsBefore, IsEnd, IsSnapshotPage, IsBroken}
+use Rattle.nb_engine.specs.Snapshots.{snapshot_files, HoldsByIds, HoldsByKeys, EndsBefore, IsEnd, IsSnapshotPage, IsPageDamaged}
 use Rattle.nb_engine.specs.Steps.{IsFlushed}
 use Rattle.nb_engine.proofs.Callers.{sorted_back}
 use Rattle.nb_engine.proofs.Frames.{session_none, session_ran, session_syncing, session_cached, session_then, session_as, session_by}
@@ -266,7 +266,7 @@ sorted_before file P high itself first second =
       };
     })
 
-being_before : {H : Type 0} {m : HostModel H} {plan : Plan} {filling : Filling} {bodies : List Body} {old middle new : H}
+being_before : {H : Type 0} {m : HostModel H} {plan : SnapshotPlan} {filling : Filling} {bodies : List Body} {old middle new : H}
     → 16 ≤ plan.file → Leads m (AgreesOutside (sorted_file ∷ [])) old middle
     → IsBeingWritten m (sorted_file ∷ []) plan filling bodies middle new
     → IsBeingWritten m (sorted_file ∷ []) plan filling bodies old new
@@ -313,7 +313,7 @@ take_next bodies i body there =
 -- ---- bodies, one after the other
 
 -- Some bodies were added to a file that is being written, the first ones of any list that the sorted file holds by ids.
-pub record HasAdded {H : Type 0} (m : HostModel H) (old_cache : CacheValue) (old : H) (count index : ℕ) (plan : Plan) (filling : Filling) (start now : H) : Type 0 where
+pub record HasAdded {H : Type 0} (m : HostModel H) (old_cache : CacheValue) (old : H) (count index : ℕ) (plan : SnapshotPlan) (filling : Filling) (start now : H) : Type 0 where
   pub bodies : List Body
   pub being : IsBeingWritten m (sorted_file ∷ []) plan filling bodies start now
   pub first_ones : IsTrue m.tells → (list : List Body) → HoldsByIds count list (seen m old_cache old sorted_file)
@@ -336,7 +336,7 @@ pub record Adding {H : Type 0} (m : HostModel H) (first : Filling) (old_cache : 
   pub listed : IsTrue m.tells → (list : List Body) → HoldsByIds count list (seen m old_cache old sorted_file)
       → last ≡ last_of (take index list)
   pub before : IsTrue m.tells → IsBefore index last (seen m old_cache old sorted_file)
-  pub being : (plan : Plan) (start : H) → IsBeingWritten m (sorted_file ∷ []) plan first [] start old
+  pub being : (plan : SnapshotPlan) (start : H) → IsBeingWritten m (sorted_file ∷ []) plan first [] start old
       → HasAdded m old_cache old count index plan filling start now
 
 well_none : {H : Type 0} (m : HostModel H) (files : List ℕ) (now : H) → WentWell m files now now
@@ -359,9 +359,9 @@ adding_none m first cache now count none none_last settled = record {
 }
 
 -- the file of a plan that is being written
-plan_file : {H : Type 0} {m : HostModel H} {plan : Plan} {filling : Filling} {bodies : List Body} {start now : H}
+plan_file : {H : Type 0} {m : HostModel H} {plan : SnapshotPlan} {filling : Filling} {bodies : List Body} {start now : H}
     → 16 ≤ (plan_of filling).file → IsBeingWritten m (sorted_file ∷ []) plan filling bodies start now → 16 ≤ plan.file
-plan_file high being = subst (λ (p : Plan). 16 ≤ p.file) being.planned high
+plan_file high being = subst (λ (p : SnapshotPlan). 16 ≤ p.file) being.planned high
 
 -- a body was read, and the sorted file may have been written
 pub adding_read : {H T E : Type 0} {m : HostModel H} {fault : E} {first filling : Filling} {old_cache cache new_cache : CacheValue}
@@ -394,7 +394,7 @@ adding_read {first = first} high adding ran ok =
 pub unfinished_read : {H T E : Type 0} {m : HostModel H} {fault : E} {first filling : Filling}
     {old_cache cache new_cache : CacheValue} {count index : ℕ} {last : Option ℕ} {old now new : H} {one : Result T E}
     → 16 ≤ (plan_of first).file → Adding m first old_cache old count index last filling cache now
-    → RanCached m fault [] cache now new_cache new one → (plan : Plan) (start : H)
+    → RanCached m fault [] cache now new_cache new one → (plan : SnapshotPlan) (start : H)
     → IsBeingWritten m (sorted_file ∷ []) plan first [] start old
     → Leads m (ChangesWith (sorted_file ∷ []) plan.file StaysUnfinished) start new
 unfinished_read high adding ran plan start is =
@@ -440,10 +440,10 @@ pub not_behind : {H : Type 0} {m : HostModel H} {first filling : Filling} {old_c
     → (IsTrue m.tells → body ≡ body_of (record_of (seen m old_cache old sorted_file) index))
     → (ForSome last (λ before. before < body.id) → ⊥) → (why : Refusal) (name : PageName) → why ≡ refusal.Damaged name
     → name ≡ page_of_body sorted_file index
-    → IsBroken m (IsEnd m count old_cache old) (λ list. HoldsByIds count list (seen m old_cache old sorted_file)) why
+    → IsPageDamaged m (IsEnd m count old_cache old) (λ list. HoldsByIds count list (seen m old_cache old sorted_file)) why
 not_behind {index = index} {last = last} body adding below there read low why name shown page = record {
   page = name;
-  shown = shown;
+  named = shown;
   place = record {
     index = index;
     below = below;
@@ -458,11 +458,11 @@ not_behind {index = index} {last = last} body adding below there read low why na
 pub no_body : {H : Type 0} {m : HostModel H} {first filling : Filling} {old_cache cache : CacheValue} {count index : ℕ}
     {last : Option ℕ} {old now : H} → Adding m first old_cache old count index last filling cache now → index < count
     → (name : PageName) → IsNoBody m cache now sorted_file index name
-    → IsBroken m (IsEnd m count old_cache old) (λ list. HoldsByIds count list (seen m old_cache old sorted_file))
+    → IsPageDamaged m (IsEnd m count old_cache old) (λ list. HoldsByIds count list (seen m old_cache old sorted_file))
     (refusal.Damaged name)
 no_body {index = index} adding below name none = record {
   page = name;
-  shown = refl;
+  named = refl;
   place = record {
     index = index;
     below = below;
@@ -479,7 +479,7 @@ no_body {index = index} adding below name none = record {
 pub adding_file : {H : Type 0} {m : HostModel H} {first filling : Filling} {old_cache cache : CacheValue} {count index : ℕ}
     {last : Option ℕ} {old now : H} → Adding m first old_cache old count index last filling cache now
     → Contains (sorted_file ∷ (plan_of first).file ∷ []) (plan_of filling).file
-adding_file adding = (1, omega arith, ap (λ (p : Plan). p.file) (sym adding.planned))
+adding_file adding = (1, omega arith, ap (λ (p : SnapshotPlan). p.file) (sym adding.planned))
 
 -- a body was added
 pub adding_added : {H T E : Type 0} {m : HostModel H} {fault : E} {first filling next : Filling} {old_cache cache : CacheValue}
@@ -494,7 +494,7 @@ pub adding_added : {H T E : Type 0} {m : HostModel H} {fault : E} {first filling
     → Ran m fault (FileBecomes (plan_of filling).file StaysShut) now new one → IsOk one
     → Adding m first old_cache old count (index + 1) (Some body.id) next cache new
 adding_added {first = first} {filling = filling} {cache = cache} {index = index} body high adding there read more filled ran ok =
-    let here = subst (λ (p : Plan). 16 ≤ p.file) (sym adding.planned) high in
+    let here = subst (λ (p : SnapshotPlan). 16 ≤ p.file) (sym adding.planned) high in
     let files = sorted_file ∷ (plan_of first).file ∷ [] in
     record {
       planned = more.plan ∙ adding.planned;
@@ -525,7 +525,7 @@ adding_added {first = first} {filling = filling} {cache = cache} {index = index}
 pub unfinished_added : {H T E : Type 0} {m : HostModel H} {fault : E} {first filling : Filling} {old_cache cache : CacheValue}
     {count index : ℕ} {last : Option ℕ} {old now new : H} {one : Result T E}
     → Adding m first old_cache old count index last filling cache now
-    → Ran m fault (FileBecomes (plan_of filling).file StaysShut) now new one → (plan : Plan) (start : H)
+    → Ran m fault (FileBecomes (plan_of filling).file StaysShut) now new one → (plan : SnapshotPlan) (start : H)
     → IsBeingWritten m (sorted_file ∷ []) plan first [] start old
     → Leads m (ChangesWith (sorted_file ∷ []) plan.file StaysUnfinished) start new
 unfinished_added adding ran plan start is = add_leads (adding.being plan start is).being ran.leads
@@ -533,7 +533,7 @@ unfinished_added adding ran plan start is = add_leads (adding.being plan start i
 -- all were added
 pub all_added : {H : Type 0} {m : HostModel H} {first filling : Filling} {old_cache cache : CacheValue} {count index : ℕ}
     {last : Option ℕ} {old now : H} → index ≡ count → Adding m first old_cache old count index last filling cache now
-    → IsTrue m.tells → (plan : Plan) (list : List Body) (start : H)
+    → IsTrue m.tells → (plan : SnapshotPlan) (list : List Body) (start : H)
     → HoldsByIds count list (seen m old_cache old sorted_file) → IsBeingWritten m (sorted_file ∷ []) plan first [] start old
     → IsBeingWritten m (sorted_file ∷ []) plan filling list start now
 all_added {m = m} {filling = filling} {index = index} {now = now} all adding tells plan list start holds is =
@@ -544,10 +544,10 @@ all_added {m = m} {filling = filling} {index = index} {now = now} all adding tel
 -- ---- the snapshot of a slot
 
 -- what is to be written after the last tick
-abbrev pub snap_plan : Counters → Plan
+abbrev pub snap_plan : Counters → SnapshotPlan
 snap_plan journal = record { file = snap_of journal.progress.ticks; count = journal.count; time = journal.progress.time }
 
-pub planned_of : (journal : Counters) {ticks file count time : ℕ} {plan : Plan}
+pub planned_of : (journal : Counters) {ticks file count time : ℕ} {plan : SnapshotPlan}
     → plan ≡ record { file = file; count = count; time = time } → file ≡ snap_of ticks → ticks ≡ journal.progress.ticks
     → count ≡ journal.count → time ≡ journal.progress.time → plan ≡ snap_plan journal
 planned_of journal is number done many when =
@@ -605,11 +605,11 @@ ordered {m = m} journal {cache = cache} {now = now} {slot = slot} here many sett
 -- where they can't be put into that order, the slot holds none
 pub unordered : {H : Type 0} {m : HostModel H} (journal : Counters) {cache : CacheValue} {old : H} {slot count : ℕ}
     → slot ≡ slot_of journal.progress.ticks → count ≡ journal.count → IsFlushed m cache old → (name : PageName)
-    → IsUnsorted m by_id cache old slot sorted_file count name
-    → IsBroken m (IsSnapshotPage journal.progress.ticks) (SlotHolds m journal old) (refusal.Damaged name)
+    → IsSortRefused m by_id cache old slot sorted_file count name
+    → IsPageDamaged m (IsSnapshotPage journal.progress.ticks) (SlotHolds m journal old) (refusal.Damaged name)
 unordered {m = m} journal {slot = slot} here many settled name none = record {
   page = name;
-  shown = refl;
+  named = refl;
   place = elim none.file [ inl one ↦ inl (one ∙ here) | inr other ↦ inr other ];
   cause = λ tells bodies keys.
       let list = sorted_by by_key bodies in
@@ -626,10 +626,10 @@ pub record Begun {H : Type 0} (m : HostModel H) (journal : Counters) (old : H) (
   pub holds : IsTrue m.tells → (bodies : List Body) → SlotHolds m journal old bodies
       → HoldsByIds journal.count bodies (seen m cache now sorted_file)
 
-pub high_plan : (journal : Counters) {plan : Plan} → plan ≡ snap_plan journal → 16 ≤ plan.file
-high_plan journal is = let number = ap (λ (p : Plan). p.file) is in omega (arith, number)
+pub high_plan : (journal : Counters) {plan : SnapshotPlan} → plan ≡ snap_plan journal → 16 ≤ plan.file
+high_plan journal is = let number = ap (λ (p : SnapshotPlan). p.file) is in omega (arith, number)
 
-pub begun : {H : Type 0} {m : HostModel H} {journal : Counters} {old middle now : H} {cache : CacheValue} {plan : Plan}
+pub begun : {H : Type 0} {m : HostModel H} {journal : Counters} {old middle now : H} {cache : CacheValue} {plan : SnapshotPlan}
     {filling : Filling} → plan ≡ snap_plan journal → Ordered m journal old cache middle → IsEmptyFilling plan filling
     → Over m (FileBecomes plan.file (IsBegun plan)) middle now → IsShutNow m plan.file now
     → Leads m (FileBecomes plan.file StaysUnfinished) middle now → Begun m journal old filling cache now
@@ -637,7 +637,7 @@ begun {m = m} {journal = journal} {old = old} {now = now} {cache = cache} {filli
     let high = high_plan journal is in
     record {
       settled = settled_file high leads order'.settled;
-      being = subst (λ (p : Plan). IsBeingWritten m (sorted_file ∷ []) p filling [] old now) is
+      being = subst (λ (p : SnapshotPlan). IsBeingWritten m (sorted_file ∷ []) p filling [] old now) is
           (being_before high order'.leads (being_begun (sorted_file ∷ []) empty over shut leads));
       holds = λ tells bodies keys.
           subst (HoldsByIds journal.count bodies) (sym (seen_file cache high leads tells)) (order'.holds tells bodies keys);
@@ -658,13 +658,13 @@ images_unordered journal bodies leads =
     sorted_changes (snap_of journal.progress.ticks) (IsWritten bodies journal.progress.time) (omega arith)
     (same_file bodies journal.progress.time) leads
 
-pub images_not_begun : {H : Type 0} {m : HostModel H} (journal : Counters) (bodies : List Body) {plan : Plan} {old middle now : H}
+pub images_not_begun : {H : Type 0} {m : HostModel H} (journal : Counters) (bodies : List Body) {plan : SnapshotPlan} {old middle now : H}
     → plan ≡ snap_plan journal → Leads m (AgreesOutside (sorted_file ∷ [])) old middle
     → Leads m (FileBecomes plan.file StaysUnfinished) middle now
     → Leads m (ChangesWith (sorted_file ∷ []) (snap_of journal.progress.ticks) (IsWritten bodies journal.progress.time)) old now
 images_not_begun {m = m} journal bodies {old = old} {now = now} is leads begin =
     let P = IsWritten bodies journal.progress.time in
-    subst (λ (p : Plan). Leads m (ChangesWith (sorted_file ∷ []) p.file P) old now) is
+    subst (λ (p : SnapshotPlan). Leads m (ChangesWith (sorted_file ∷ []) p.file P) old now) is
     (sorted_before _ P (high_plan journal is) (same_file bodies journal.progress.time) leads
     (leads_more begin (λ start image step. becomes_changes (becomes_more step (still bodies journal.progress.time)))))
 
@@ -677,7 +677,7 @@ images_unfinished journal bodies leads =
 -- all bodies of the slot were added
 pub filled : {H : Type 0} {m : HostModel H} {journal : Counters} {old now next : H} {cache : CacheValue} {count : ℕ}
     {filling full : Filling} → count ≡ journal.count → Begun m journal old filling cache now
-    → (IsTrue m.tells → (plan : Plan) (bodies : List Body) (start : H)
+    → (IsTrue m.tells → (plan : SnapshotPlan) (bodies : List Body) (start : H)
     → HoldsByIds count bodies (seen m cache now sorted_file) → IsBeingWritten m (sorted_file ∷ []) plan filling [] start now
     → IsBeingWritten m (sorted_file ∷ []) plan full bodies start next)
     → IsTrue m.tells → (bodies : List Body) → SlotHolds m journal old bodies
@@ -698,22 +698,22 @@ pub closed_snapshot : {H : Type 0} {m : HostModel H} (journal : Counters) {bodie
     → FileBecomes (plan_of full).file (IsFinishedAs list (plan_of full).time) (m.contents next) (m.contents new))
     → IsSnapshot ((m.contents new).file (snap_of journal.progress.ticks)) bodies journal.progress.time
 closed_snapshot {m = m} journal {bodies = bodies} {new = new} tells being finished =
-    subst (λ (p : Plan). IsSnapshot ((m.contents new).file p.file) bodies p.time) being.planned
+    subst (λ (p : SnapshotPlan). IsSnapshot ((m.contents new).file p.file) bodies p.time) being.planned
     (finished bodies tells (being.filled.left.reads tells)).file
 
 -- Where the sorted file was said to hold none by ids, the slot holds none.
 pub broken_slot : {H : Type 0} {m : HostModel H} {journal : Counters} {old now : H} {cache : CacheValue} {count : ℕ}
     {filling : Filling} → count ≡ journal.count → Begun m journal old filling cache now → (why : Refusal)
     → NeedsNoCause why
-    ⊎ IsBroken m (IsEnd m count cache now) (λ list. HoldsByIds count list (seen m cache now sorted_file)) why
-    → NeedsNoCause why ⊎ IsBroken m (IsSnapshotPage journal.progress.ticks) (SlotHolds m journal old) why
+    ⊎ IsPageDamaged m (IsEnd m count cache now) (λ list. HoldsByIds count list (seen m cache now sorted_file)) why
+    → NeedsNoCause why ⊎ IsPageDamaged m (IsSnapshotPage journal.progress.ticks) (SlotHolds m journal old) why
 broken_slot {m = m} {now = now} {cache = cache} many start why cause =
     elim cause [
       | inl none ↦ inl none
       | inr broken ↦
           inr (record {
             page = broken.page;
-            shown = broken.shown;
+            named = broken.named;
             place = inr (ap (λ (n : PageName). n.file) broken.place.page_is);
             cause = λ tells bodies keys.
                 broken.cause tells bodies
@@ -735,13 +735,13 @@ refused_as error was is ran =
 pub sorted_among : (k : ℕ) → Contains (snapshot_files k) sorted_file
 sorted_among k = (0, omega arith, refl)
 
-pub plan_among : (journal : Counters) {plan : Plan} → plan ≡ snap_plan journal
+pub plan_among : (journal : Counters) {plan : SnapshotPlan} → plan ≡ snap_plan journal
     → Contains (snapshot_files journal.progress.ticks) plan.file
-plan_among journal is = (1, omega arith, ap (λ (p : Plan). p.file) (sym is))
+plan_among journal is = (1, omega arith, ap (λ (p : SnapshotPlan). p.file) (sym is))
 
 pub session_adds : {H T : Type 0} {m : HostModel H} (journal : Counters) (filling : Filling) {old new : H}
     {result : Result T Refusal} → plan_of filling ≡ snap_plan journal
     → RanSession m (AgreesOutside (sorted_file ∷ (plan_of filling).file ∷ [])) old new result
     → RanSession m (AgreesOutside (snapshot_files journal.progress.ticks)) old new result
 session_adds {m = m} journal filling {old = old} {new = new} {result = result} is ran =
-    subst (λ (p : Plan). RanSession m (AgreesOutside (sorted_file ∷ p.file ∷ [])) old new result) is ran
+    subst (λ (p : SnapshotPlan). RanSession m (AgreesOutside (sorted_file ∷ p.file ∷ [])) old new result) is ran

@@ -46,7 +46,7 @@ started_history files start has allowed = record {
   };
   count = refl;
   gone = refl;
-  told = λ number gone there. absurd (no_entry there.1);
+  truthful = λ number gone there. absurd (no_entry there.1);
 } where
   no_entry : {k : ℕ} → k < 0 → ⊥
   no_entry below = omega arith

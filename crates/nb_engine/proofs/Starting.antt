@@ -23,12 +23,12 @@ use Rattle.nb_record.specs.Order.{by_key, sorted_by, HoldsBodies}
 use Rattle.nb_tick.specs.Slots.{slot_of, drifted_file}
 use Rattle.nb_engine.specs.declared.refusal.Refusal.{Refusal}
 use Rattle.nb_engine.specs.declared.refusal.Refusal.TheVariants as refusal
-use Rattle.nb_engine.specs.declared.run_start.Plan.{Plan}
+use Rattle.nb_engine.specs.declared.run_start.StartPlan.{StartPlan}
 use Rattle.nb_engine.specs.Files.{init_file}
 use Rattle.nb_engine.specs.Frame.{RanSession}
-use Rattle.nb_engine.specs.Reading.{plan_of, IsPlanned}
+use Rattle.nb_engine.specs.Reading.{start_plan, IsPlanned}
 use Rattle.nb_engine.specs.Refusal.{of_host}
-use Rattle.nb_engine.specs.Snapshots.{IsBroken}
+use Rattle.nb_engine.specs.Snapshots.{IsPageDamaged}
 use Rattle.nb_engine.specs.Start.{Start, IsStartReady, started, RepresentsStart, StartLeads}
 use Rattle.nb_engine.proofs.CachedCalls.{well, well_isnt}
 use Rattle.nb_engine.proofs.EachImages.{durable_stays, leads_from_durable}
@@ -206,58 +206,58 @@ prepared_kept m log leads prepared = left_stays m (others_spare journal_apart le
 -- ---- the calls of `start`, one after the other
 
 -- The log of a plan, which is that of the run that it begins.
-abbrev pub log_of : Plan → Log
+abbrev pub log_of : StartPlan → Log
 log_of plan = new_log plan.params plan.census.count plan.time plan.census.gone
 
 -- A run can be started by this plan, from where what reads is durable, and since then calls only read.
-pub record IsSetOut {H : Type 0} (m : HostModel H) (plan : Plan) (old planned : H) : Type 0 where
+pub record IsSetOut {H : Type 0} (m : HostModel H) (plan : StartPlan) (old planned : H) : Type 0 where
   pub durable : IsDurable m old
-  pub ready : IsTrue m.tells → (start : Start) × IsStartReady (m.contents old).file start × (plan ≡ plan_of start)
+  pub ready : IsTrue m.tells → (start : Start) × IsStartReady (m.contents old).file start × (plan ≡ start_plan start)
   pub reads : Leads m Stays old planned
 
-set_out_fresh : {H : Type 0} {m : HostModel H} {plan : Plan} {old planned : H} → IsSetOut m plan old planned → IsTrue m.tells
+set_out_fresh : {H : Type 0} {m : HostModel H} {plan : StartPlan} {old planned : H} → IsSetOut m plan old planned → IsTrue m.tells
     → IsUnstarted (m.contents old)
 set_out_fresh set_out tells = (set_out.ready tells).1.fresh
 
 -- what `prepare` needs
-fresh_planned : {H : Type 0} {m : HostModel H} {plan : Plan} {old planned : H} → IsSetOut m plan old planned
+fresh_planned : {H : Type 0} {m : HostModel H} {plan : StartPlan} {old planned : H} → IsSetOut m plan old planned
     → IsFreshNow m planned
 fresh_planned {m = m} set_out = fresh_now m set_out.durable (set_out_fresh set_out) set_out.reads
 
 -- It left the journal shut.
-pub record IsMade {H : Type 0} (m : HostModel H) (plan : Plan) (old planned prepared : H) : Type 0 where
+pub record IsMade {H : Type 0} (m : HostModel H) (plan : StartPlan) (old planned prepared : H) : Type 0 where
   pub set_out : IsSetOut m plan old planned
   pub leads : Leads m (AgreesOutside (journal_file ∷ [])) planned prepared
   pub images : ImagesFollow m.crashes planned prepared StaysFresh
 
-pub made_of : {H : Type 0} {m : HostModel H} {plan : Plan} {old planned prepared : H} → IsDurable m old
-    → (IsTrue m.tells → (start : Start) × IsStartReady (m.contents old).file start × (plan ≡ plan_of start))
+pub made_of : {H : Type 0} {m : HostModel H} {plan : StartPlan} {old planned prepared : H} → IsDurable m old
+    → (IsTrue m.tells → (start : Start) × IsStartReady (m.contents old).file start × (plan ≡ start_plan start))
     → Leads m Stays old planned → Leads m (AgreesOutside (journal_file ∷ [])) planned prepared
     → (IsFreshNow m planned → ImagesFollow m.crashes planned prepared StaysFresh) → IsMade m plan old planned prepared
 made_of {m = m} {plan = plan} {old = old} {planned = planned} durable ready reads leads images =
     let set_out : IsSetOut m plan old planned = record { durable = durable; ready = ready; reads = reads } in
     record { set_out = set_out; leads = leads; images = images (fresh_planned set_out) }
 
-made_lays : {H : Type 0} {m : HostModel H} {plan : Plan} {old planned prepared : H} → IsMade m plan old planned prepared
+made_lays : {H : Type 0} {m : HostModel H} {plan : StartPlan} {old planned prepared : H} → IsMade m plan old planned prepared
     → Leads m (Lays m.crashes.is_honest (journal_file ∷ []) IsUnstarted) old prepared
 made_lays made = lays_after IsUnstarted (λ image unstarted. unstarted) made.set_out.reads (lays_prepared made.leads made.images)
 
-ready_alone : {H : Type 0} {m : HostModel H} {plan : Plan} {old planned : H} → IsSetOut m plan old planned → IsTrue m.tells
+ready_alone : {H : Type 0} {m : HostModel H} {plan : StartPlan} {old planned : H} → IsSetOut m plan old planned → IsTrue m.tells
     → (start : Start) × IsStartReady (m.contents old).file start
 ready_alone set_out tells = let can = set_out.ready tells in (can.0, can.1)
 
-pub made_leads : {H : Type 0} {m : HostModel H} {plan : Plan} {old planned prepared : H} → IsMade m plan old planned prepared
+pub made_leads : {H : Type 0} {m : HostModel H} {plan : StartPlan} {old planned prepared : H} → IsMade m plan old planned prepared
     → Leads m (StartLeads m.crashes.is_honest) old prepared
 made_leads made =
     start_leads IsUnstarted made.set_out.durable first_within (ready_alone made.set_out) (λ tells image unstarted. inl unstarted)
     (made_lays made)
 
 -- The bodies were laid down, or it was tried.
-pub record IsLaid {H : Type 0} (m : HostModel H) (plan : Plan) (old planned prepared laid : H) : Type 0 where
+pub record IsLaid {H : Type 0} (m : HostModel H) (plan : StartPlan) (old planned prepared laid : H) : Type 0 where
   pub made : IsMade m plan old planned prepared
   pub leads : Leads m (AgreesOutside ((slot_of 0 ∷ drifted_file ∷ []) ++ [])) prepared laid
 
-pub laid_of : {H : Type 0} {m : HostModel H} {plan : Plan} {cache new_cache : CacheValue} {old planned prepared laid : H}
+pub laid_of : {H : Type 0} {m : HostModel H} {plan : StartPlan} {cache new_cache : CacheValue} {old planned prepared laid : H}
     → IsMade m plan old planned prepared → cache.unwritten ≡ []
     → Writes m (slot_of 0 ∷ drifted_file ∷ []) cache prepared new_cache laid → IsLaid m plan old planned prepared laid
 laid_of {m = m} {prepared = prepared} {laid = laid} made none writes = record {
@@ -266,27 +266,27 @@ laid_of {m = m} {prepared = prepared} {laid = laid} made none writes = record {
       writes.leads;
 }
 
-laid_lays : {H : Type 0} {m : HostModel H} {plan : Plan} {old planned prepared laid : H} → IsLaid m plan old planned prepared laid
+laid_lays : {H : Type 0} {m : HostModel H} {plan : StartPlan} {old planned prepared laid : H} → IsLaid m plan old planned prepared laid
     → Leads m (Lays m.crashes.is_honest start_files IsUnstarted) old laid
 laid_lays laid = lays_bodies (made_lays laid.made) laid.leads
 
-pub laid_leads : {H : Type 0} {m : HostModel H} {plan : Plan} {old planned prepared laid : H}
+pub laid_leads : {H : Type 0} {m : HostModel H} {plan : StartPlan} {old planned prepared laid : H}
     → IsLaid m plan old planned prepared laid → Leads m (StartLeads m.crashes.is_honest) old laid
 laid_leads laid =
     start_leads IsUnstarted laid.made.set_out.durable (λ number has. has) (ready_alone laid.made.set_out)
     (λ tells image unstarted. inl unstarted) (laid_lays laid)
 
 -- what `prepare` laid down
-abbrev pub HasLaidDown : {H : Type 0} → HostModel H → Plan → H → Type 0
+abbrev pub HasLaidDown : {H : Type 0} → HostModel H → StartPlan → H → Type 0
 HasLaidDown m plan host = IsTrue m.tells → (m.contents host).file journal_file ≡ laid_down (log_of plan)
 
-laid_prepared : {H : Type 0} {m : HostModel H} {plan : Plan} {old planned prepared laid : H}
+laid_prepared : {H : Type 0} {m : HostModel H} {plan : StartPlan} {old planned prepared laid : H}
     → IsLaid m plan old planned prepared laid → HasLaidDown m plan prepared → IsPrepared m (log_of plan) laid
 laid_prepared {m = m} {plan = plan} laid there =
     prepared_kept m (log_of plan) laid.leads (prepared_then m (log_of plan) laid.made.images there)
 
 -- So the gate can be opened, of a log that is the plan's.
-pub gate_follows : {H : Type 0} {m : HostModel H} {plan : Plan} {log : Log} {old planned prepared laid new : H}
+pub gate_follows : {H : Type 0} {m : HostModel H} {plan : StartPlan} {log : Log} {old planned prepared laid new : H}
     → IsLaid m plan old planned prepared laid → HasLaidDown m plan prepared → log ≡ log_of plan
     → (IsPrepared m log laid → ImagesFollow m.crashes laid new (Starts log (m.contents laid)))
     → ImagesFollow m.crashes laid new (Starts (log_of plan) (m.contents laid))
@@ -294,7 +294,7 @@ gate_follows {m = m} {laid = host} {new = new} laid there is images =
     subst (λ (l : Log). ImagesFollow m.crashes host new (Starts l (m.contents host))) is
     (images (subst (λ (l : Log). IsPrepared m l host) (sym is) (laid_prepared laid there)))
 
-pub gate_journal : {H : Type 0} {m : HostModel H} {plan : Plan} {log : Log} {old planned prepared laid : H} {file : List ℕ}
+pub gate_journal : {H : Type 0} {m : HostModel H} {plan : StartPlan} {log : Log} {old planned prepared laid : H} {file : List ℕ}
     → IsLaid m plan old planned prepared laid → HasLaidDown m plan prepared → log ≡ log_of plan
     → (IsTrue m.tells → (m.contents laid).file journal_file ≡ laid_down log → IsCleanJournal log file) → IsTrue m.tells
     → IsCleanJournal (log_of plan) file
@@ -303,10 +303,10 @@ gate_journal {file = file} laid there is journal tells =
     (journal tells ((laid_prepared laid there).reads tells ∙ ap laid_down (sym is)))
 
 -- the snapshot is that of the plan still, once the journal was laid down
-planned_there : {plan : Plan} (start : Start) (old now : Image) → plan ≡ plan_of start → IsStartReady old.file start
+planned_there : {plan : StartPlan} (start : Start) (old now : Image) → plan ≡ start_plan start → IsStartReady old.file start
     → now.file init_file ≡ old.file init_file → IsPlanned plan start.bodies (now.file init_file)
 planned_there start old now is ready same =
-    subst (λ (p : Plan). IsPlanned p start.bodies (now.file init_file)) (sym is)
+    subst (λ (p : StartPlan). IsPlanned p start.bodies (now.file init_file)) (sym is)
     (record {
       snapshot = subst (λ (file : List ℕ). IsSnapshot file start.bodies start.time) (sym same) ready.starts.snapshot;
       census = refl;
@@ -315,31 +315,31 @@ planned_there start old now is ready same =
 init_apart : Contains (journal_file ∷ []) init_file → ⊥
 init_apart has = none_of (journal_file ∷ []) init_file (omega arith) has
 
-prepared_init : {H : Type 0} {m : HostModel H} {plan : Plan} {old planned prepared : H} → IsMade m plan old planned prepared
+prepared_init : {H : Type 0} {m : HostModel H} {plan : StartPlan} {old planned prepared : H} → IsMade m plan old planned prepared
     → IsTrue m.tells → (m.contents prepared).file init_file ≡ (m.contents old).file init_file
 prepared_init made tells =
     (made.leads.contents tells).others init_file init_apart
     ∙ ap (λ (i : Image). i.file init_file) (made.set_out.reads.contents tells)
 
 -- So that it isn't is no cause of a refusal.
-pub never_broken : {H : Type 0} {m : HostModel H} {plan : Plan} {old planned prepared : H} {IsPage : PageName → Type 0}
+pub never_broken : {H : Type 0} {m : HostModel H} {plan : StartPlan} {old planned prepared : H} {IsPage : PageName → Type 0}
     {why : Refusal} → IsMade m plan old planned prepared
-    → IsBroken m IsPage (λ bodies. IsPlanned plan bodies ((m.contents prepared).file init_file)) why → IsTrue m.tells → ⊥
+    → IsPageDamaged m IsPage (λ bodies. IsPlanned plan bodies ((m.contents prepared).file init_file)) why → IsTrue m.tells → ⊥
 never_broken {m = m} {old = old} {prepared = prepared} made broken tells =
     let can = made.set_out.ready tells in
     broken.cause tells can.0.bodies
     (planned_there can.0 (m.contents old) (m.contents prepared) can.2 can.1 (prepared_init made tells))
 
 -- The bodies of the snapshot stand in the first slot, if it is that of the plan.
-abbrev pub HoldsPlanned : {H : Type 0} → HostModel H → Plan → H → H → Type 0
+abbrev pub HoldsPlanned : {H : Type 0} → HostModel H → StartPlan → H → H → Type 0
 HoldsPlanned m plan prepared laid = IsTrue m.tells → (bodies : List Body)
     → IsPlanned plan bodies ((m.contents prepared).file init_file)
     → HoldsBodies ((m.contents laid).file (slot_of 0)) (sorted_by by_key bodies)
 
 -- what stands behind the gate
-gate_still : {H : Type 0} {m : HostModel H} {plan : Plan} {old planned prepared laid : H} {image : Image}
+gate_still : {H : Type 0} {m : HostModel H} {plan : StartPlan} {old planned prepared laid : H} {image : Image}
     → IsLaid m plan old planned prepared laid → HoldsPlanned m plan prepared laid → (tells : IsTrue m.tells)
-    → (start : Start) → IsStartReady (m.contents old).file start → plan ≡ plan_of start
+    → (start : Start) → IsStartReady (m.contents old).file start → plan ≡ start_plan start
     → IsCommitted (log_of plan) (m.contents laid) image → RepresentsStart start image
 gate_still {m = m} {old = old} {prepared = prepared} laid holds tells start ready is committed =
     committed_still start (ap log_of is) ready ((laid_lays laid).contents tells).others
@@ -347,7 +347,7 @@ gate_still {m = m} {old = old} {prepared = prepared} laid holds tells start read
     (planned_there start (m.contents old) (m.contents prepared) is ready (prepared_init laid.made tells))) committed
 
 -- The gate was opened, or it was tried.
-pub gate_leads : {H : Type 0} {m : HostModel H} {plan : Plan} {old planned prepared laid new : H}
+pub gate_leads : {H : Type 0} {m : HostModel H} {plan : StartPlan} {old planned prepared laid new : H}
     {P : List ℕ → List ℕ → Type 0} → IsLaid m plan old planned prepared laid → HoldsPlanned m plan prepared laid
     → Leads m (FileBecomes journal_file P) laid new → ImagesFollow m.crashes laid new (Starts (log_of plan) (m.contents laid))
     → Leads m (StartLeads m.crashes.is_honest) old new
@@ -363,11 +363,11 @@ gate_leads {m = m} {plan = plan} {laid = middle} laid holds opens images =
     ]) (lays_started (laid_lays laid) agrees images)
 
 -- It was opened, and the folder represents the run.
-pub gate_opened : {H : Type 0} {m : HostModel H} {plan : Plan} {old planned prepared laid new : H}
+pub gate_opened : {H : Type 0} {m : HostModel H} {plan : StartPlan} {old planned prepared laid new : H}
     {P : List ℕ → List ℕ → Type 0} → IsLaid m plan old planned prepared laid → HoldsPlanned m plan prepared laid
     → Leads m (FileBecomes journal_file P) laid new
     → (IsTrue m.tells → IsCleanJournal (log_of plan) ((m.contents new).file journal_file)) → IsTrue m.tells
-    → (start : Start) × IsStartReady (m.contents old).file start × (plan ≡ plan_of start)
+    → (start : Start) × IsStartReady (m.contents old).file start × (plan ≡ start_plan start)
     × RepresentsStart start (m.contents new)
 gate_opened laid holds opens journal tells =
     let can = laid.made.set_out.ready tells in (

@@ -12,11 +12,11 @@ use Rattle.nb_tick.specs.Slots.{slot_of, sorted_file, cell_file}
 use Rattle.nb_tick.specs.State.{HoldsState}
 use Rattle.nb_engine.specs.declared.refusal.Refusal.{Refusal}
 use Rattle.nb_engine.specs.Due.{IsDueByCounters, TellsDue}
-use Rattle.nb_engine.specs.Frame.{EachImage, IsApart, KeepsApart, RanSession}
+use Rattle.nb_engine.specs.Frame.{EachImage, IsOutsideRun, KeepsOutsideRun, RanSession}
 use Rattle.nb_engine.specs.Histories.{History, ticked}
 use Rattle.nb_engine.specs.Refusal.{NeedsNoCause}
 use Rattle.nb_engine.specs.Snapshots.{snapshot_files}
-use Rattle.nb_engine.specs.Steps.{IsCheckpoint, HasState, IsSpoilt, GoesOn, HasPlayed, IsUpToDate}
+use Rattle.nb_engine.specs.Steps.{IsCheckpoint, HasState, IsStateDamaged, GoesOn, HasPlayed, HoldsDueSnapshots}
 use Rattle.nb_engine.proofs.DueNow.{tells_due-ticked}
 use Rattle.nb_engine.proofs.EachImages.{each_then}
 use Rattle.nb_engine.proofs.Frames.{session_then}
@@ -30,11 +30,11 @@ apart_snapshot k number sorted low (zero, below, at) = sorted (sym at)
 apart_snapshot k number sorted low (suc zero, below, at) = omega (arith, at, low)
 apart_snapshot k number sorted low (suc (suc n), below, at) = omega (arith, below)
 
-snapshot_apart : (k number : ℕ) → IsApart number → Contains (snapshot_files k) number → ⊥
+snapshot_apart : (k number : ℕ) → IsOutsideRun number → Contains (snapshot_files k) number → ⊥
 snapshot_apart k number (inl low) = apart_snapshot k number (omega arith) (omega arith)
 snapshot_apart k number (inr high) = apart_snapshot k number (omega (arith, high.0)) (high.1)
 
-snapshot_keeps : (k : ℕ) {start image : Image} → AgreesOutside (snapshot_files k) start image → KeepsApart start image
+snapshot_keeps : (k : ℕ) {start image : Image} → AgreesOutside (snapshot_files k) start image → KeepsOutsideRun start image
 snapshot_keeps k agrees = record {
   files = λ number apart. agrees.others number (snapshot_apart k number apart);
   err = ap (λ (s : Channel → List ℕ). s channels.Err) agrees.said;
@@ -42,8 +42,8 @@ snapshot_keeps k agrees = record {
 
 -- the frame of both
 pub step_frame : {H T U : Type 0} {m : HostModel H} {h0 h1 h2 : H} {one : Result T Refusal} {two : Result U Refusal} (k : ℕ)
-    → IsOk one → RanSession m KeepsApart h0 h1 one → RanSession m (AgreesOutside (snapshot_files k)) h1 h2 two
-    → RanSession m KeepsApart h0 h2 two
+    → IsOk one → RanSession m KeepsOutsideRun h0 h1 one → RanSession m (AgreesOutside (snapshot_files k)) h1 h2 two
+    → RanSession m KeepsOutsideRun h0 h2 two
 step_frame k ok before after =
     session_then ok before after
     (leads_again (λ a b d first second. keeps_again first second) before.leads
@@ -73,12 +73,12 @@ module _ {H : Type 0} (m : HostModel H) (journal next : Counters) (h0 h1 h2 : H)
   -- a spoilt folder behind the tick was one before
   pub still_spoilt : (why : Refusal) → (IsTrue m.tells → (bodies : List Body) → HasState journal bodies (m.contents h0).file
       → (later : List Body) × HasState next later (m.contents h1).file)
-      → NeedsNoCause why ⊎ IsSpoilt m next h1 why → NeedsNoCause why ⊎ IsSpoilt m journal h0 why
+      → NeedsNoCause why ⊎ IsStateDamaged m next h1 why → NeedsNoCause why ⊎ IsStateDamaged m journal h0 why
   still_spoilt why after (inl none) = inl none
   still_spoilt why after (inr spoilt) =
       inr (record {
         page = spoilt.page;
-        shown = spoilt.shown;
+        named = spoilt.named;
         file = spoilt.file;
         cause = λ tells bodies has.
             let later = after tells bodies has in spoilt.cause tells later.0 later.1;
@@ -86,7 +86,7 @@ module _ {H : Type 0} (m : HostModel H) (journal next : Counters) (h0 h1 h2 : H)
 
   -- ---- where the tick is done
 
-  module _ (due : Bool) (tells_due : IsTrue due ↔ IsDueByCounters next) (h : History) (at : IsCheckpoint m h journal h0) (up : IsUpToDate m h h0) (ticks : (h : History) → IsCheckpoint m h journal h0 → IsUpToDate m h h0 → HasPlayed m 1 h (m.contents h0) next h1) where
+  module _ (due : Bool) (tells_due : IsTrue due ↔ IsDueByCounters next) (h : History) (at : IsCheckpoint m h journal h0) (up : HoldsDueSnapshots m h h0) (ticks : (h : History) → IsCheckpoint m h journal h0 → HoldsDueSnapshots m h h0 → HasPlayed m 1 h (m.contents h0) next h1) where
     played_here : HasPlayed m 1 h (m.contents h0) next h1
     played_here = ticks h at up
 
@@ -102,8 +102,8 @@ module _ {H : Type 0} (m : HostModel H) (journal next : Counters) (h0 h1 h2 : H)
 
     pub step_done : Leads m (AgreesOutside (snapshot_files next.progress.ticks)) h1 h2
         → ((h : History) → TellsDue h due → IsCheckpoint m h next h1
-        → HasPlayed m 0 h (m.contents h1) next h2 × IsUpToDate m h h2)
-        → HasPlayed m 1 h (m.contents h0) next h2 × IsUpToDate m (ticked h) h2
+        → HasPlayed m 0 h (m.contents h1) next h2 × HoldsDueSnapshots m h h2)
+        → HasPlayed m 1 h (m.contents h0) next h2 × HoldsDueSnapshots m (ticked h) h2
     step_done leads finished =
         let both = finished (ticked h) due_here played_here.at in
         let same = (leads.contents at.tells).others cell_file

@@ -9,7 +9,7 @@ use Rattle.nb_model.specs.Laws.{opposite, StepIsUndone}
 use Rattle.nb_model.specs.Leapfrog.{escaped_count, step, steps}
 use Rattle.nb_model.specs.Legs.{directions_to, directions}
 use Rattle.nb_model.specs.Valid.{IsValidBodies}
-use Rattle.nb_engine.specs.Histories.{Run, state_of, time_of, IsRun}
+use Rattle.nb_engine.specs.Histories.{Run, state_at, time_at, IsRun}
 use Rattle.nb_engine.proofs.Heights.{forwards, backs, forwards-cons, backs-cons, never_below}
 use Rattle.nb_engine.proofs.Steps.{steps_append, steps_valid, escaped_count-step, escaped_count-steps, escaped_count-fewer}
 
@@ -142,9 +142,9 @@ goes_straight undone params bodies (Back ∷ ways) from to valid none =
     (omega (arith, backs-cons Back ways)) (omega (arith, forwards-cons Back ways))
 
 run_straight : StepIsUndone → (run : Run) (k i : ℕ) → IsRun run
-    → escaped_count (state_of run k) ≡ escaped_count run.bodies → i ≤ k
+    → escaped_count (state_at run k) ≡ escaped_count run.bodies → i ≤ k
     → let ways = take i (directions run.begin run.legs) in
-    state_of run i ≡ straight run.params run.bodies (0 + backs ways) (0 + forwards ways)
+    state_at run i ≡ straight run.params run.bodies (0 + backs ways) (0 + forwards ways)
 run_straight undone run k i is none less =
     let all = directions run.begin run.legs in
     let ways = take i all in
@@ -154,8 +154,8 @@ run_straight undone run k i is none less =
 
 -- at equal times the lists are equal
 pub same_state : StepIsUndone → (run : Run) (k i j : ℕ) → IsRun run
-    → escaped_count (state_of run k) ≡ escaped_count run.bodies → i ≤ k → j ≤ k → time_of run i ≡ time_of run j
-    → state_of run i ≡ state_of run j
+    → escaped_count (state_at run k) ≡ escaped_count run.bodies → i ≤ k → j ≤ k → time_at run i ≡ time_at run j
+    → state_at run i ≡ state_at run j
 same_state undone run k i j is none first second same =
     let all = directions run.begin run.legs in
     let ways = take i all in

@@ -2,7 +2,7 @@
 use Rattle.std.proofs.Common.{◌≡◌, ◌≢◌, ℕ, zero, suc, ◌+◌, ◌^◌, ◌<◌, ◌≤◌, ◌⊎◌, inl, inr, IsTrue, IsOk, Contains, Result, Err, List, [], ◌∷◌, ◌++◌, length, take, refl, sym, ap, subst, ◌∙◌, arith, append-nil}
 use Rattle.nb_host.specs.Crashes.{ImagesFollow, AgreesOutside}
 use Rattle.nb_host.specs.Image.{Image, FileBecomes, Says, SaysPart}
-use Rattle.nb_host.specs.Meaning.{HostModel, Leads, Over, IsDurable, RanSyncing, Spoke}
+use Rattle.nb_host.specs.Meaning.{HostModel, Leads, Over, IsDurable, RanSyncing, RanSaying}
 use Rattle.nb_host.specs.declared.host.Channel.{Channel}
 use Rattle.nb_host.specs.declared.host.Channel.TheVariants as channels
 use Rattle.nb_host.specs.declared.host.HostError.{HostError}
@@ -27,12 +27,12 @@ use Rattle.nb_tick.specs.State.{HoldsState, IsCellIndexOf}
 use Rattle.nb_engine.specs.declared.refusal.Refusal.{Refusal}
 use Rattle.nb_engine.specs.declared.refusal.Refusal.TheVariants as refusal
 use Rattle.nb_engine.specs.Files.{init_file}
-use Rattle.nb_engine.specs.Frame.{EachImage, IsApart, KeepsApart, RanSession}
+use Rattle.nb_engine.specs.Frame.{EachImage, IsOutsideRun, KeepsOutsideRun, RanSession}
 use Rattle.nb_engine.specs.Gates.{CanTick}
-use Rattle.nb_engine.specs.Histories.{Run, state_of, time_of, History, run_of, ticks_of, IsHistory, next_tick, ticked}
+use Rattle.nb_engine.specs.Histories.{Run, state_at, time_at, History, run_of, ticks_of, IsHistory, next_tick, ticked}
 use Rattle.nb_engine.specs.Refusal.{NeedsNoCause}
-use Rattle.nb_engine.specs.Represents.{snap_of, IsOpened, IsComplete, RepresentsRun}
-use Rattle.nb_engine.specs.Steps.{tick_line_of, lines_behind, IsCheckpoint, IsFlushed, HasState, IsSpoilt, fill_files, IsFilled, HasNext, IsPassed, GoesOn, HasPlayed, IsUpToDate}
+use Rattle.nb_engine.specs.Represents.{snap_of, HasOpenGate, HasDueSnapshots, RepresentsRun}
+use Rattle.nb_engine.specs.Steps.{tick_line_of, lines_after, IsCheckpoint, IsFlushed, HasState, IsStateDamaged, fill_files, IsFilled, HasNextState, IsOutsideTicks, GoesOn, HasPlayed, HoldsDueSnapshots}
 use Rattle.nb_engine.proofs.EachImages.{from_durable, each_then, durable_said}
 use Rattle.nb_engine.proofs.Filling.{Handed, apart_filled}
 use Rattle.nb_engine.proofs.Frames.{session_syncing, session_spoke, session_then, session_as, session_ended}
@@ -41,7 +41,7 @@ use Rattle.nb_engine.proofs.Paths.{time-now}
 use Rattle.nb_engine.proofs.Played.{said_first, passed_fewer}
 use Rattle.nb_engine.proofs.Representing.{spared, represents_kept, represents_ticked}
 
-lines_one : (run : Run) (k : ℕ) → lines_behind run k 1 ≡ tick_line_of run (suc k)
+lines_one : (run : Run) (k : ℕ) → lines_after run k 1 ≡ tick_line_of run (suc k)
 lines_one run k = let same : k + 0 ≡ k = omega arith in ap (λ (n : ℕ). tick_line_of run (suc n)) same
 
 -- ---- the files that a tick fills
@@ -58,7 +58,7 @@ slot_apart k = apart_filled k (slot_of k) (omega arith) (inl (omega arith))
 snap_apart : (k j : ℕ) → j ≤ k → Contains (fill_files k) (snap_of j) → ⊥
 snap_apart k j within = apart_filled k (snap_of j) (omega arith) (inr (omega arith, omega arith))
 
-snap_passed : (k j : ℕ) → IsPassed k 1 j → Contains (fill_files k) (snap_of j) → ⊥
+snap_passed : (k j : ℕ) → IsOutsideTicks k 1 j → Contains (fill_files k) (snap_of j) → ⊥
 snap_passed k j (inl before) = apart_filled k (snap_of j) (omega arith) (inr (omega arith, omega (arith, before)))
 snap_passed k j (inr behind) = apart_filled k (snap_of j) (omega arith) (inr (omega arith, omega (arith, behind)))
 
@@ -101,12 +101,12 @@ filled_done h before image stands agrees =
 pub record HasTicked (h : History) (before image : Image) : Type 0 where
   pub is : IsHistory (ticked h)
   pub represents : RepresentsRun (ticked h) image
-  pub kept : (j : ℕ) → (j ≤ ticks_of h) ⊎ IsPassed (ticks_of h) 1 j → image.file (snap_of j) ≡ before.file (snap_of j)
-  pub shut : IsOpened (image.file (snap_of (suc (ticks_of h)))) → ⊥
+  pub kept : (j : ℕ) → (j ≤ ticks_of h) ⊎ IsOutsideTicks (ticks_of h) 1 j → image.file (snap_of j) ≡ before.file (snap_of j)
+  pub shut : HasOpenGate (image.file (snap_of (suc (ticks_of h)))) → ⊥
   pub said : image.said channels.Out ≡ before.said channels.Out
 
 -- what stands before the gate of the next tick
-pub can_tick : (h : History) (before image : Image) → IsComplete (run_of h) (ticks_of h) before
+pub can_tick : (h : History) (before image : Image) → HasDueSnapshots (run_of h) (ticks_of h) before
     → AgreesOutside (fill_files (ticks_of h)) before image → IsFilled h image → CanTick h image
 can_tick h before image complete agrees filled = record {
   complete = λ j due within.
@@ -138,22 +138,22 @@ has_ticked h before filled image is stands agrees can opened clean =
             | inl within ↦ snap_apart k j within
             | inr passed ↦ snap_passed k j passed
           ]);
-      shut = λ is_open. can.shut (subst IsOpened
+      shut = λ is_open. can.shut (subst HasOpenGate
           (opened.others (snap_of (suc k)) (other_than_journal (snap_of (suc k)) (omega arith))) is_open);
       said = ap (λ (s : Channel → List ℕ). s channels.Out) (opened.said ∙ agrees.said);
     }
 
 -- with one tick done of one
-passed_one : (k j : ℕ) → IsPassed k 2 j ⊎ IsPassed k 1 j → IsPassed k 1 j
+passed_one : (k j : ℕ) → IsOutsideTicks k 2 j ⊎ IsOutsideTicks k 1 j → IsOutsideTicks k 1 j
 passed_one k j (inl next) = passed_fewer k 1 2 j (omega arith) next
 passed_one k j (inr last) = last
 
 -- the snapshot of that tick isn't opened
-not_opened : (h : History) (image : Image) → (IsOpened (image.file (snap_of (suc (ticks_of h)))) → ⊥)
-    → IsOpened (image.file (snap_of (ticks_of h + 1))) → ⊥
+not_opened : (h : History) (image : Image) → (HasOpenGate (image.file (snap_of (suc (ticks_of h)))) → ⊥)
+    → HasOpenGate (image.file (snap_of (ticks_of h + 1))) → ⊥
 not_opened h image shut opened =
     let same : ticks_of h + 1 ≡ suc (ticks_of h) = omega arith in
-    shut (subst (λ (k : ℕ). IsOpened (image.file (snap_of k))) same opened)
+    shut (subst (λ (k : ℕ). HasOpenGate (image.file (snap_of k))) same opened)
 
 pub ticked_done : (h : History) (before image : Image) → HasTicked h before image → GoesOn 1 h before image
 ticked_done h before image has = record {
@@ -196,7 +196,7 @@ line_done h before now image line is has part =
           said_first (run_of h) (ticks_of h) n line (before.said channels.Out) (image.said channels.Out) is part.1
           (says.said ∙ ap (λ (l : List ℕ). l ++ take n line) has.said);
       first = λ opened.
-          absurd (not_opened h image (λ is_open. has.shut (subst IsOpened (files (suc (ticks_of h))) is_open)) opened);
+          absurd (not_opened h image (λ is_open. has.shut (subst HasOpenGate (files (suc (ticks_of h))) is_open)) opened);
     }
 
 -- ---- the calls of a tick
@@ -205,7 +205,7 @@ line_done h before now image line is has part =
 abbrev pub Fills : {H : Type 0} → HostModel H → Counters → H → H → ℕ → Type 0
 Fills m journal old new gone = IsTrue m.tells → (h : History) → Answers h.log journal → IsHistory h
     → RepresentsRun h (m.contents old)
-    → IsFilled h (m.contents new) × (gone ≡ escaped_count (state_of (run_of h) (suc (ticks_of h))))
+    → IsFilled h (m.contents new) × (gone ≡ escaped_count (state_at (run_of h) (suc (ticks_of h))))
 
 -- what the adding of an entry may leave in each image, and what it leaves at its end
 abbrev pub MayAppend : {H : Type 0} → HostModel H → Counters → Entry → H → H → Type 0
@@ -234,11 +234,11 @@ module _ {H : Type 0} (m : HostModel H) (journal : Counters) (h0 h1 : H) (leads 
         from_durable m (AgreesOutside (fill_files (ticks_of h))) (GoesOn 1 h before) at.durable fills.images
         (λ honest image agrees. filled_done h before image at.represents agrees)
 
-    module _ (up : IsUpToDate m h h0) (gone ticks : ℕ) (ticks_is : ticks ≡ journal.progress.ticks) (filled : Fills m journal h0 h1 gone) where
+    module _ (up : HoldsDueSnapshots m h h0) (gone ticks : ℕ) (ticks_is : ticks ≡ journal.progress.ticks) (filled : Fills m journal h0 h1 gone) where
       abbrev entry : Entry
       entry = Tick (ticks + 1) gone
 
-      there : IsFilled h (m.contents h1) × (gone ≡ escaped_count (state_of (run_of h) (suc (ticks_of h))))
+      there : IsFilled h (m.contents h1) × (gone ≡ escaped_count (state_at (run_of h) (suc (ticks_of h))))
       there = filled at.tells h at.answers at.is at.represents
 
       number_is : ticks + 1 ≡ suc (ticks_of h)
@@ -296,18 +296,18 @@ module _ {H : Type 0} (m : HostModel H) (journal : Counters) (h0 h1 : H) (leads 
             has_ticked h before (m.contents h1) (m.contents h2) at.is at.represents (fills.contents at.tells) can
             (becomes_agrees (opens.contents at.tells)) clean_next
 
-        time_is : next.progress.time ≡ time_of (run_of h) (suc (ticks_of h))
+        time_is : next.progress.time ≡ time_at (run_of h) (suc (ticks_of h))
         time_is =
             ap (λ (j : Counters). j.progress.time) answers_next ∙ time-now (ticked h) clean_next.journal.lawful
-            ∙ ap (λ (run : Run). time_of run (ticks_of (ticked h))) (run-ticked h)
-            ∙ ap (λ (k : ℕ). time_of (run_of h) k) (ticks-ticked h)
+            ∙ ap (λ (run : Run). time_at run (ticks_of (ticked h))) (run-ticked h)
+            ∙ ap (λ (k : ℕ). time_at (run_of h) k) (ticks-ticked h)
 
         module _ (time : ℕ) (same_time : time ≡ next.progress.time) (line : List ℕ) (spelled : line ≡ tick_line (ticks + 1) time gone) where
           line_is : line ≡ tick_line_of (run_of h) (suc (ticks_of h))
           line_is =
               let k = suc (ticks_of h) in
               spelled ∙ ap (λ (n : ℕ). tick_line n time gone) number_is ∙ ap (λ (n : ℕ). tick_line k n gone) (same_time ∙ time_is)
-              ∙ ap (λ (n : ℕ). tick_line k (time_of (run_of h) k) n) there.1
+              ∙ ap (λ (n : ℕ). tick_line k (time_at (run_of h) k) n) there.1
 
           -- where the line may have been begun
           pub line_images : (h3 : H) → Leads m (SaysPart channels.Out line) h2 h3 → EachImage m (GoesOn 1 h before) h0 h3
@@ -327,9 +327,9 @@ module _ {H : Type 0} (m : HostModel H) (journal : Counters) (h0 h1 : H) (leads 
               let cells = there.0.cells in
               let kept = file cell_file
               ∙ (opens.contents at.tells).others cell_file (omega arith) in
-              let list : state_of (run_of (ticked h)) (ticks_of (ticked h)) ≡ state_of (run_of h) (suc (ticks_of h)) =
-              ap (λ (run : Run). state_of run (ticks_of (ticked h))) (run-ticked h)
-              ∙ ap (λ (k : ℕ). state_of (run_of h) k) (ticks-ticked h) in
+              let list : state_at (run_of (ticked h)) (ticks_of (ticked h)) ≡ state_at (run_of h) (suc (ticks_of h)) =
+              ap (λ (run : Run). state_at run (ticks_of (ticked h))) (run-ticked h)
+              ∙ ap (λ (k : ℕ). state_at (run_of h) k) (ticks-ticked h) in
               record {
                 at = record {
                   tells = at.tells;
@@ -346,14 +346,14 @@ module _ {H : Type 0} (m : HostModel H) (journal : Counters) (h0 h1 : H) (leads 
                     ∙ ap (λ (l : List ℕ). before.said channels.Out ++ l) (line_is ∙ sym (lines_one (run_of h) (ticks_of h)));
                 cells = λ _.
                     subst (λ (l : List Body). IsCellIndexOf h.log.params l ((m.contents h3).file cell_file)) (sym list)
-                    (subst (IsCellIndexOf h.log.params (state_of (run_of h) (suc (ticks_of h)))) (sym kept) cells);
+                    (subst (IsCellIndexOf h.log.params (state_at (run_of h) (suc (ticks_of h)))) (sym kept) cells);
               }
 
 -- ---- what the next tick goes on from
 
 pub state_after : (journal next : Counters) (gone ticks : ℕ) (old new : ℕ → List ℕ) → ticks ≡ journal.progress.ticks
     → next ≡ counters_after (Tick (ticks + 1) gone) journal → ((number : ℕ) → number ≢ journal_file → new number ≡ old number)
-    → HasNext journal gone old → (later : List Body) × HasState next later new
+    → HasNextState journal gone old → (later : List Body) × HasState next later new
 state_after journal next gone ticks old new ticks_is next_is same has =
     let list = has.bodies in
     let after = counters_after (Tick (ticks + 1) gone) journal in
@@ -368,12 +368,12 @@ state_after journal next gone ticks old new ticks_is next_is same has =
 pub fewer_spoilt : {H : Type 0} (m : HostModel H) (journal : Counters) (h0 h1 : H) (gone : ℕ) (why : Refusal)
     → (gone < journal.progress.gone) × (why ≡ refusal.Damaged (record { file = slot_of journal.progress.ticks; page = 0 }))
     → (IsTrue m.tells → (bodies : List Body) → HasState journal bodies (m.contents h0).file
-    → HasNext journal gone (m.contents h1).file)
-    → NeedsNoCause why ⊎ IsSpoilt m journal h0 why
+    → HasNextState journal gone (m.contents h1).file)
+    → NeedsNoCause why ⊎ IsStateDamaged m journal h0 why
 fewer_spoilt m journal h0 h1 gone why fewer next =
     inr (record {
       page = record { file = slot_of journal.progress.ticks; page = 0 };
-      shown = fewer.1;
+      named = fewer.1;
       file = (omega arith, omega arith);
       cause = λ tells bodies has. omega (arith, (next tells bodies has).no_fewer, fewer.0);
     })
@@ -397,28 +397,28 @@ settled_line cache leads settled = record {
 
 -- ---- the frame
 
-pub keeps_again : {start between image : Image} → KeepsApart start between → KeepsApart between image → KeepsApart start image
+pub keeps_again : {start between image : Image} → KeepsOutsideRun start between → KeepsOutsideRun between image → KeepsOutsideRun start image
 keeps_again one two = record {
   files = λ number apart. two.files number apart ∙ one.files number apart;
   err = two.err ∙ one.err;
 }
 
-filled_apart : (k number : ℕ) → IsApart number → Contains (fill_files k) number → ⊥
+filled_apart : (k number : ℕ) → IsOutsideRun number → Contains (fill_files k) number → ⊥
 filled_apart k number (inl low) = apart_filled k number (omega arith) (inl (omega arith))
 filled_apart k number (inr high) = apart_filled k number (omega (arith, high.0)) (inr (high.0, omega (arith, high.1)))
 
-fill_keeps : (k : ℕ) {start image : Image} → AgreesOutside (fill_files k) start image → KeepsApart start image
+fill_keeps : (k : ℕ) {start image : Image} → AgreesOutside (fill_files k) start image → KeepsOutsideRun start image
 fill_keeps k agrees = record {
   files = λ number apart. agrees.others number (filled_apart k number apart);
   err = ap (λ (s : Channel → List ℕ). s channels.Err) agrees.said;
 }
 
-journal_kept : (number : ℕ) → IsApart number → number ≢ journal_file
+journal_kept : (number : ℕ) → IsOutsideRun number → number ≢ journal_file
 journal_kept number (inl low) same = omega (arith, low, same)
 journal_kept number (inr high) same = omega (arith, high.0, same)
 
 entry_keeps : {P : List ℕ → List ℕ → Type 0} {start image : Image} → FileBecomes journal_file P start image
-    → KeepsApart start image
+    → KeepsOutsideRun start image
 entry_keeps becomes = record {
   files = λ number apart. becomes.others number (journal_kept number apart);
   err = ap (λ (s : Channel → List ℕ). s channels.Err) becomes.said;
@@ -427,7 +427,7 @@ entry_keeps becomes = record {
 Err≢Out : ◌≡◌ {A = Channel} channels.Err channels.Out → ⊥
 Err≢Out same = cc
 
-line_keeps : {bytes : List ℕ} {start image : Image} → SaysPart channels.Out bytes start image → KeepsApart start image
+line_keeps : {bytes : List ℕ} {start image : Image} → SaysPart channels.Out bytes start image → KeepsOutsideRun start image
 line_keeps part = record {
   files = λ number _. ap (λ (f : ℕ → List ℕ). f number) part.2.files;
   err = part.2.others channels.Err Err≢Out;
@@ -435,7 +435,7 @@ line_keeps part = record {
 
 -- the frame of the filling, as one of the tick's
 pub fill_frame : {H T : Type 0} {m : HostModel H} {old new : H} {result : Result T Refusal} (k : ℕ)
-    → RanSession m (AgreesOutside (fill_files k)) old new result → RanSession m KeepsApart old new result
+    → RanSession m (AgreesOutside (fill_files k)) old new result → RanSession m KeepsOutsideRun old new result
 fill_frame k ran = record {
   leads = leads_more ran.leads (λ start image agrees. fill_keeps k agrees);
   count = ran.count;
@@ -457,7 +457,7 @@ same_frame error was is ran =
 pub entry_frame : {H T U V : Type 0} {m : HostModel H} {P : List ℕ → List ℕ → Type 0} {h0 h1 h2 : H} {one : Result T Refusal}
     {two : Result U HostError} {result : Result V Refusal} (k : ℕ) → IsOk one
     → RanSession m (AgreesOutside (fill_files k)) h0 h1 one → RanSyncing m 2 host.Fault (FileBecomes journal_file P) h1 h2 two
-    → Handed host.Fault two result → (IsOk result → IsOk two) → RanSession m KeepsApart h0 h2 result
+    → Handed host.Fault two result → (IsOk result → IsOk two) → RanSession m KeepsOutsideRun h0 h2 result
 entry_frame k ok filled appended handed fine =
     let one = fill_frame k filled in
     session_then ok one (session_syncing appended handed.there handed.back fine)
@@ -466,9 +466,9 @@ entry_frame k ok filled appended handed fine =
 
 -- and the line
 pub line_frame : {H T U : Type 0} {m : HostModel H} {bytes : List ℕ} {h0 h2 h3 : H} {one : Result T Refusal}
-    {two : Result (Unit {0}) HostError} {result : Result U Refusal} → IsOk one → RanSession m KeepsApart h0 h2 one
-    → Spoke m channels.Out bytes h2 h3 two → Handed host.Fault two result → (IsOk result → IsOk two)
-    → RanSession m KeepsApart h0 h3 result
+    {two : Result (Unit {0}) HostError} {result : Result U Refusal} → IsOk one → RanSession m KeepsOutsideRun h0 h2 one
+    → RanSaying m channels.Out bytes h2 h3 two → Handed host.Fault two result → (IsOk result → IsOk two)
+    → RanSession m KeepsOutsideRun h0 h3 result
 line_frame ok before spoke handed fine =
     session_then ok before (session_spoke spoke spoke.leads handed.there handed.back fine)
     (leads_again (λ a b d first second. keeps_again first second) before.leads
@@ -477,5 +477,5 @@ line_frame ok before spoke handed fine =
 -- fewer bodies out than the journal tells, behind the filling
 pub fewer_frame : {H T U : Type 0} {m : HostModel H} {old new : H} {one : Result T Refusal} {result : Result U Refusal} (k : ℕ)
     (page : PageName) → RanSession m (AgreesOutside (fill_files k)) old new one → IsOk one
-    → result ≡ Err (refusal.Damaged page) → RanSession m KeepsApart old new result
+    → result ≡ Err (refusal.Damaged page) → RanSession m KeepsOutsideRun old new result
 fewer_frame k page filled ok is = session_ended (fill_frame k filled) ok (λ faulted. absurd (cc))

@@ -17,19 +17,19 @@ pub record Run : Type 0 where
   pub legs : List ℕ
 
 -- the list after the first k ticks of a run, and the time then
-abbrev pub state_of : Run → ℕ → List Body
-state_of run k = state_after run.params run.bodies run.begin run.legs k
+abbrev pub state_at : Run → ℕ → List Body
+state_at run k = state_after run.params run.bodies run.begin run.legs k
 
-abbrev pub time_of : Run → ℕ → ℕ
-time_of run k = time_after run.begin run.legs k
+abbrev pub time_at : Run → ℕ → ℕ
+time_at run k = time_after run.begin run.legs k
 
 -- a snapshot is due after tick k
 abbrev pub IsDueAfter : Run → ℕ → Type 0
 IsDueAfter run k = IsSnapshotDue run.params run.begin run.legs k
 
 -- how many ticks a run has
-abbrev pub length_of : Run → ℕ
-length_of run = length (directions run.begin run.legs)
+abbrev pub run_length : Run → ℕ
+run_length run = length (directions run.begin run.legs)
 
 -- The bodies are valid, and the legs are those of a run.
 pub record IsRun (run : Run) : Type 0 where
@@ -59,7 +59,7 @@ ticks_of h = (progress_of h.log).ticks
 -- A tick of the journal is one of those that are done, with the number of bodies that were out after it.
 pub record IsRecordedTick (h : History) (number gone : ℕ) : Type 0 where
   pub done : number ≤ ticks_of h
-  pub gone_is : gone ≡ escaped_count (state_of (run_of h) number)
+  pub gone_is : gone ≡ escaped_count (state_at (run_of h) number)
 
 -- The journal tells the truth of a run with these bodies. That its ticks are 1 to the last, in order, and lead along its
 -- legs, is so of every lawful log.
@@ -67,7 +67,7 @@ pub record IsHistory (h : History) : Type 0 where
   pub run : IsRun (run_of h)
   pub count : h.log.count ≡ length h.bodies
   pub gone : h.log.begin_gone ≡ escaped_count h.bodies
-  pub told : (number gone : ℕ) → Contains h.log.entries (Tick number gone) → IsRecordedTick h number gone
+  pub truthful : (number gone : ℕ) → Contains h.log.entries (Tick number gone) → IsRecordedTick h number gone
 
 -- ---- one entry more
 
@@ -76,7 +76,7 @@ with_entry_of entry h = record { log = record h.log { entries = h.log.entries ++
 
 -- the entry of the next tick
 abbrev pub next_tick : History → Entry
-next_tick h = Tick (suc (ticks_of h)) (escaped_count (state_of (run_of h) (suc (ticks_of h))))
+next_tick h = Tick (suc (ticks_of h)) (escaped_count (state_at (run_of h) (suc (ticks_of h))))
 
 -- the history with one tick more, and with one leg more
 abbrev pub ticked : History → History

@@ -20,12 +20,12 @@ use Rattle.nb_engine.specs.declared.refusal.Refusal.TheVariants as refusal
 use Rattle.nb_engine.specs.declared.going.Pace.{Pace}
 use Rattle.nb_engine.specs.declared.going.Done.{Done}
 use Rattle.nb_engine.specs.Files.{init_file, IsPagedFile}
-use Rattle.nb_engine.specs.Frame.{KeepsApart}
-use Rattle.nb_engine.specs.Histories.{state_of, length_of, History, run_of, ticks_of, IsHistory, legged}
-use Rattle.nb_engine.specs.Represents.{snap_of, IsComplete, RepresentsRun}
-use Rattle.nb_engine.specs.Shown.{IsNotShown}
+use Rattle.nb_engine.specs.Frame.{KeepsOutsideRun}
+use Rattle.nb_engine.specs.Histories.{state_at, run_length, History, run_of, ticks_of, IsHistory, legged}
+use Rattle.nb_engine.specs.Represents.{snap_of, HasDueSnapshots, RepresentsRun}
+use Rattle.nb_engine.specs.Shown.{IsShowRefused}
 use Rattle.nb_engine.specs.Snapshots.{FinishLeads}
-use Rattle.nb_engine.specs.Steps.{lines_behind, played, IsPassed, GoesOn, HasState, IsUpToDate}
+use Rattle.nb_engine.specs.Steps.{lines_after, played, IsOutsideTicks, GoesOn, HasState, HoldsDueSnapshots}
 
 -- a pace that a session can have: from 4 to 2 ^ 18 pages, and from 1 to 1024 walks at a time
 pub record IsPace (pace : Pace) : Type 0 where
@@ -56,17 +56,17 @@ ticks_to target h = abs_diff (progress_of h.log).time target
 pub record IsLed (n : ℕ) (h : History) (before : Image) (done : Done) (image : Image) : Type 0 where
   pub is : IsHistory (played n h)
   pub represents : RepresentsRun (played n h) image
-  pub ended : ticks_of (played n h) ≡ length_of (run_of (played n h))
-  pub complete : IsComplete (run_of (played n h)) (ticks_of (played n h)) image
+  pub ended : ticks_of (played n h) ≡ run_length (run_of (played n h))
+  pub complete : HasDueSnapshots (run_of (played n h)) (ticks_of (played n h)) image
   pub kept : (j : ℕ) → j ≤ ticks_of h → IsFinishedSnapshot (length h.bodies) (before.file (snap_of j))
       → image.file (snap_of j) ≡ before.file (snap_of j)
-  pub others : (j : ℕ) → IsPassed (ticks_of h) n j → image.file (snap_of j) ≡ before.file (snap_of j)
-  pub said : image.said channels.Out ≡ before.said channels.Out ++ lines_behind (run_of h) (ticks_of h) n
+  pub others : (j : ℕ) → IsOutsideTicks (ticks_of h) n j → image.file (snap_of j) ≡ before.file (snap_of j)
+  pub said : image.said channels.Out ≡ before.said channels.Out ++ lines_after (run_of h) (ticks_of h) n
   pub cells : n ≢ 0
-      → IsCellIndexOf h.log.params (state_of (run_of (played n h)) (ticks_of (played n h))) (image.file cell_file)
+      → IsCellIndexOf h.log.params (state_at (run_of (played n h)) (ticks_of (played n h))) (image.file cell_file)
   pub time_is : done.time ≡ (progress_of (played n h).log).time
   pub ticks_is : done.ticks ≡ ticks_of (played n h)
-  pub gone_is : done.gone ≡ escaped_count (state_of (run_of (played n h)) (ticks_of (played n h)))
+  pub gone_is : done.gone ≡ escaped_count (state_at (run_of (played n h)) (ticks_of (played n h)))
   pub back : done.time ≡ h.log.begin_time → 1 ≤ done.ticks → done.gone ≡ h.log.begin_gone
       → image.file (snap_of done.ticks) ≡ image.file init_file
 
@@ -80,7 +80,7 @@ IsNoLeg target s why =
 -- What a session may have changed at some moment, done or not: where there is no journal nothing, and else no file that is
 -- apart, and nothing on Err.
 pub record SessionLeads (old new : Image) : Type 0 where
-  pub apart : KeepsApart old new
+  pub apart : KeepsOutsideRun old new
   pub idle : ((log : Log) → IsJournal log (old.file journal_file) → ⊥) → new ≡ old
 
 -- What a session may have changed before its ticks: beside that the snapshot that is due, where there is a journal.
@@ -107,7 +107,7 @@ pub record GoLeads (honest : Bool) (target : ℕ) (old new : Image) : Type 0 whe
 pub record IsBroughtUp {H : Type 0} (m : HostModel H) (old new : H) : Type 0 where
   pub durable : IsDurable m new
   pub stands : IsTrue m.tells → (h : History) → IsHistory h → RepresentsRun h (m.contents old)
-      → RepresentsRun h (m.contents new) × IsUpToDate m h new
+      → RepresentsRun h (m.contents new) × HoldsDueSnapshots m h new
   pub synced : IsTrue m.tells → (m.tally old).syncs ≤ (m.tally new).syncs
 
 -- What `resume` may have changed: of an honest host it went on with what the folder represented. Where the last leg is at its
@@ -124,7 +124,7 @@ pub record ResumeLeads (honest : Bool) (old new : Image) : Type 0 where
 -- The cause for which `go` refuses by what the files hold: there is no journal, or it allows no such leg. No folder has two.
 abbrev pub IsGoRefused : ℕ → (ℕ → List ℕ) → Refusal → Type 0
 IsGoRefused target files why =
-    IsNotShown (files journal_file) why
+    IsShowRefused (files journal_file) why
     ⊎ ((log : Log) × IsJournal log (files journal_file) × IsNoLeg target (progress_of log) why)
 
 -- a refusal of a leg
@@ -134,21 +134,21 @@ IsOfLeg (refusal.TickLimit _) = ⊤
 IsOfLeg _ = ⊥
 
 -- `go` can lead there, by the journal.
-abbrev pub CanGo : ℕ → (ℕ → List ℕ) → Type 0
-CanGo target files =
+abbrev pub IsGoReady : ℕ → (ℕ → List ℕ) → Type 0
+IsGoReady target files =
     (log : Log) × IsJournal log (files journal_file) × ((why : Refusal) → IsNoLeg target (progress_of log) why → ⊥)
 
 -- and `resume` can
-abbrev pub CanResume : (ℕ → List ℕ) → Type 0
-CanResume files = (log : Log) × IsJournal log (files journal_file)
+abbrev pub IsResumeReady : (ℕ → List ℕ) → Type 0
+IsResumeReady files = (log : Log) × IsJournal log (files journal_file)
 
 -- A page of a file of pages isn't what it has to be, and the slot of the last tick doesn't hold what its run needs to go on:
 -- valid bodies in Morton order, as many as the journal tells, of which as many are out.
-pub record IsSlotSpoilt (files : ℕ → List ℕ) (why : Refusal) : Type 0 where
+pub record IsSlotDamaged (files : ℕ → List ℕ) (why : Refusal) : Type 0 where
   pub log : Log
   pub journal : IsJournal log (files journal_file)
   pub page : PageName
-  pub shown : why ≡ refusal.Damaged page
+  pub named : why ≡ refusal.Damaged page
   pub file : IsPagedFile page.file
   pub cause : (bodies : List Body) → HasState (counters_of log) bodies files → ⊥
 

@@ -18,8 +18,8 @@ pub record TellsLog (log : Log) (shown : Shown) : Type 0 where
 
 -- Why nothing is shown of a journal file: none is started, or it is damaged, and the refusal says where. No file has both
 -- causes, and a journal has none.
-abbrev pub IsNotShown : List ℕ → Refusal → Type 0
-IsNotShown file why =
+abbrev pub IsShowRefused : List ℕ → Refusal → Type 0
+IsShowRefused file why =
     ((why ≡ refusal.NotStarted) × IsFresh file) ⊎ ((offset : ℕ) × (why ≡ damaged_journal offset) × IsDamagedAt offset file)
 
 -- The numbers are within those of a run, whatever the host tells.

@@ -62,8 +62,8 @@ IsSnapshotPage k page = (page.file ≡ slot_of k) ⊎ (page.file ≡ sorted_file
 
 -- A page isn't what it has to be: it is one of these, and over a host that tells there are no bodies that are held as they have
 -- to be.
-pub record IsBroken {H : Type 0} (m : HostModel H) (IsPage : PageName → Type 0) (Holds : List Body → Type 0) (why : Refusal) : Type 0 where
+pub record IsPageDamaged {H : Type 0} (m : HostModel H) (IsPage : PageName → Type 0) (Holds : List Body → Type 0) (why : Refusal) : Type 0 where
   pub page : PageName
-  pub shown : why ≡ refusal.Damaged page
+  pub named : why ≡ refusal.Damaged page
   pub place : IsPage page
   pub cause : IsTrue m.tells → (bodies : List Body) → Holds bodies → ⊥

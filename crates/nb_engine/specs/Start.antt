@@ -105,8 +105,8 @@ pub record StartLeads (honest : Bool) (old new : Image) : Type 0 where
 -- ---- what the second reading of the initial snapshot names as damaged
 
 -- a place in the initial snapshot: the number of a body, counted from 0, or 0 for the header
-abbrev pub place_of_body : ℕ → PageName
-place_of_body index = record { file = init_file; page = index }
+abbrev pub init_record_name : ℕ → PageName
+init_record_name index = record { file = init_file; page = index }
 
 -- The first of what the bytes refuse is the record with this index.
 pub record IsRefusedAt (index : ℕ) (file : List ℕ) : Type 0 where
@@ -119,7 +119,7 @@ pub record IsRefusedAt (index : ℕ) (file : List ℕ) : Type 0 where
 pub record IsCopyEnd {H : Type 0} (m : HostModel H) (reader : SnapReader) (cache : CacheValue) (host : H) (page : PageName) : Type 0 where
   pub index : ℕ
   pub below : index < count_of reader
-  pub place : ((page ≡ place_of_body index) × (IsTrue m.tells → HasRead reader ((m.contents host).file init_file) []
+  pub place : ((page ≡ init_record_name index) × (IsTrue m.tells → HasRead reader ((m.contents host).file init_file) []
       → IsRefusedAt index ((m.contents host).file init_file)))
       ⊎ ((page ≡ page_of_body drifted_file index) × (IsTrue m.tells → seen m cache host drifted_file ≡ [] → ⊥))
 
@@ -127,8 +127,8 @@ pub record IsCopyEnd {H : Type 0} (m : HostModel H) (reader : SnapReader) (cache
 -- the snapshot or in the copy
 abbrev pub IsReadPlace : ℕ → PageName → Type 0
 IsReadPlace count page =
-    (page ≡ place_of_body 0)
-    ⊎ ((index : ℕ) × (index < count) × ((page ≡ place_of_body index) ⊎ (page ≡ page_of_body drifted_file index)))
+    (page ≡ init_record_name 0)
+    ⊎ ((index : ℕ) × (index < count) × ((page ≡ init_record_name index) ⊎ (page ≡ page_of_body drifted_file index)))
 
 -- and one that the laying down of them names: such a place, or a page of the copy or of the first slot
 abbrev pub IsLaidPlace : ℕ → PageName → Type 0

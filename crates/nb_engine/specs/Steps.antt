@@ -17,20 +17,20 @@ use Rattle.nb_tick.specs.Slots.{slot_of, drifted_file, sorted_file, cell_file}
 use Rattle.nb_tick.specs.State.{IsCellIndexOf}
 use Rattle.nb_engine.specs.declared.refusal.Refusal.{Refusal}
 use Rattle.nb_engine.specs.declared.refusal.Refusal.TheVariants as refusal
-use Rattle.nb_engine.specs.Histories.{Run, state_of, time_of, History, run_of, ticks_of, IsHistory, ticked}
+use Rattle.nb_engine.specs.Histories.{Run, state_at, time_at, History, run_of, ticks_of, IsHistory, ticked}
 use Rattle.nb_engine.specs.Files.{IsPagedFile}
-use Rattle.nb_engine.specs.Represents.{snap_of, IsOpened, IsComplete, RepresentsRun}
+use Rattle.nb_engine.specs.Represents.{snap_of, HasOpenGate, HasDueSnapshots, RepresentsRun}
 
 -- ---- the lines of ticks
 
 -- the line of a run's tick k
 abbrev pub tick_line_of : Run → ℕ → List ℕ
-tick_line_of run k = tick_line k (time_of run k) (escaped_count (state_of run k))
+tick_line_of run k = tick_line k (time_at run k) (escaped_count (state_at run k))
 
 -- those of the n ticks behind tick k
-abbrev pub lines_behind : Run → ℕ → ℕ → List ℕ
-lines_behind run k zero = []
-lines_behind run k (suc n) = lines_behind run k n ++ tick_line_of run (suc (k + n))
+abbrev pub lines_after : Run → ℕ → ℕ → List ℕ
+lines_after run k zero = []
+lines_after run k (suc n) = lines_after run k n ++ tick_line_of run (suc (k + n))
 
 -- The bytes said on a channel are those of before and a front of this text.
 abbrev pub SaidPrefixOf : List ℕ → List ℕ → List ℕ → Type 0
@@ -39,7 +39,7 @@ SaidPrefixOf text old new = (n : ℕ) × (n ≤ length text) × (new ≡ old ++ 
 -- What was said since tick k, when n ticks are done behind it: the lines of all but the last, and a front of the last one's.
 abbrev pub SaidLinesOf : Run → ℕ → ℕ → List ℕ → List ℕ → Type 0
 SaidLinesOf run k zero old new = new ≡ old
-SaidLinesOf run k (suc n) old new = SaidPrefixOf (tick_line_of run (suc (k + n))) (old ++ lines_behind run k n) new
+SaidLinesOf run k (suc n) old new = SaidPrefixOf (tick_line_of run (suc (k + n))) (old ++ lines_after run k n) new
 
 -- ---- before and behind a step
 
@@ -71,9 +71,9 @@ pub record HasState (journal : Counters) (bodies : List Body) (files : ℕ → L
 
 -- A page isn't what it has to be: it is one of a file of pages, and over a host that tells the folder doesn't hold what its run
 -- needs to go on.
-pub record IsSpoilt {H : Type 0} (m : HostModel H) (journal : Counters) (host : H) (why : Refusal) : Type 0 where
+pub record IsStateDamaged {H : Type 0} (m : HostModel H) (journal : Counters) (host : H) (why : Refusal) : Type 0 where
   pub page : PageName
-  pub shown : why ≡ refusal.Damaged page
+  pub named : why ≡ refusal.Damaged page
   pub file : IsPagedFile page.file
   pub cause : IsTrue m.tells → (bodies : List Body) → HasState journal bodies (m.contents host).file → ⊥
 
@@ -87,13 +87,13 @@ fill_files k = slot_of (suc k) ∷ drifted_file ∷ sorted_file ∷ cell_file �
 -- cells is its index, and what stands under the name of its snapshot isn't opened.
 pub record IsFilled (h : History) (image : Image) : Type 0 where
   pub slot : HoldsKickedBodies (image.file (slot_of (suc (ticks_of h))))
-      (half_kick h.log.params (state_of (run_of h) (suc (ticks_of h))))
-      (sorted_by by_key (state_of (run_of h) (suc (ticks_of h))))
-  pub cells : IsCellIndexOf h.log.params (state_of (run_of h) (suc (ticks_of h))) (image.file cell_file)
-  pub shut : IsOpened (image.file (snap_of (suc (ticks_of h)))) → ⊥
+      (half_kick h.log.params (state_at (run_of h) (suc (ticks_of h))))
+      (sorted_by by_key (state_at (run_of h) (suc (ticks_of h))))
+  pub cells : IsCellIndexOf h.log.params (state_at (run_of h) (suc (ticks_of h))) (image.file cell_file)
+  pub shut : HasOpenGate (image.file (snap_of (suc (ticks_of h)))) → ⊥
 
 -- The other slot holds a list that the next tick can go on from, with so many bodies out.
-pub record HasNext (journal : Counters) (gone : ℕ) (files : ℕ → List ℕ) : Type 0 where
+pub record HasNextState (journal : Counters) (gone : ℕ) (files : ℕ → List ℕ) : Type 0 where
   pub bodies : List Body
   pub valid : IsValidBodies journal.params bodies
   pub count : length bodies ≡ journal.count
@@ -104,8 +104,8 @@ pub record HasNext (journal : Counters) (gone : ℕ) (files : ℕ → List ℕ) 
 -- ---- ticks
 
 -- A tick whose snapshot's name isn't written while n ticks are taken behind tick k: it is before that, or behind them.
-abbrev pub IsPassed : ℕ → ℕ → ℕ → Type 0
-IsPassed k n j = (j < k) ⊎ (k + n < j)
+abbrev pub IsOutsideTicks : ℕ → ℕ → ℕ → Type 0
+IsOutsideTicks k n j = (j < k) ⊎ (k + n < j)
 
 -- What a folder that represented a history may hold at some moment since, when at most so many ticks came behind: it
 -- represents the history some ticks later, each snapshot that was finished is as it was, as is what stands under the names
@@ -117,22 +117,22 @@ pub record GoesOn (most : ℕ) (h : History) (before image : Image) : Type 0 whe
   pub represents : RepresentsRun (played done h) image
   pub kept : (j : ℕ) → j ≤ ticks_of h → IsFinishedSnapshot (length h.bodies) (before.file (snap_of j))
       → image.file (snap_of j) ≡ before.file (snap_of j)
-  pub others : (j : ℕ) → IsPassed (ticks_of h) (suc done) j ⊎ IsPassed (ticks_of h) most j
+  pub others : (j : ℕ) → IsOutsideTicks (ticks_of h) (suc done) j ⊎ IsOutsideTicks (ticks_of h) most j
       → image.file (snap_of j) ≡ before.file (snap_of j)
   pub said : SaidLinesOf (run_of h) (ticks_of h) done (before.said channels.Out) (image.said channels.Out)
-  pub first : IsOpened (image.file (snap_of (ticks_of h + done)))
-      → image.said channels.Out ≡ before.said channels.Out ++ lines_behind (run_of h) (ticks_of h) done
+  pub first : HasOpenGate (image.file (snap_of (ticks_of h + done)))
+      → image.said channels.Out ≡ before.said channels.Out ++ lines_after (run_of h) (ticks_of h) done
 
 -- So many ticks are done, and told: all of that is durable, and the journal in hand tells it.
 pub record HasPlayed {H : Type 0} (m : HostModel H) (n : ℕ) (h : History) (before : Image) (journal : Counters) (host : H) : Type 0 where
   pub at : IsCheckpoint m (played n h) journal host
   pub kept : (j : ℕ) → j ≤ ticks_of h → IsFinishedSnapshot (length h.bodies) (before.file (snap_of j))
       → (m.contents host).file (snap_of j) ≡ before.file (snap_of j)
-  pub others : (j : ℕ) → IsPassed (ticks_of h) n j → (m.contents host).file (snap_of j) ≡ before.file (snap_of j)
-  pub said : (m.contents host).said channels.Out ≡ before.said channels.Out ++ lines_behind (run_of h) (ticks_of h) n
+  pub others : (j : ℕ) → IsOutsideTicks (ticks_of h) n j → (m.contents host).file (snap_of j) ≡ before.file (snap_of j)
+  pub said : (m.contents host).said channels.Out ≡ before.said channels.Out ++ lines_after (run_of h) (ticks_of h) n
   pub cells : n ≢ 0
-      → IsCellIndexOf h.log.params (state_of (run_of (played n h)) (ticks_of (played n h))) ((m.contents host).file cell_file)
+      → IsCellIndexOf h.log.params (state_at (run_of (played n h)) (ticks_of (played n h))) ((m.contents host).file cell_file)
 
 -- All snapshots that are due are finished.
-abbrev pub IsUpToDate : {H : Type 0} → HostModel H → History → H → Type 0
-IsUpToDate m h host = IsComplete (run_of h) (ticks_of h) (m.contents host)
+abbrev pub HoldsDueSnapshots : {H : Type 0} → HostModel H → History → H → Type 0
+HoldsDueSnapshots m h host = HasDueSnapshots (run_of h) (ticks_of h) (m.contents host)

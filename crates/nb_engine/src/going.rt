@@ -7,12 +7,12 @@ ghost use Rattle.nb_host.specs.Meaning.{IsDurable, Leads};
 ghost use Rattle.nb_journal.specs.Finding.{IsFound};
 ghost use Rattle.nb_journal.specs.Form.{Log, IsJournal, progress_of};
 ghost use Rattle.nb_journal.specs.Offsets.{journal_file};
-ghost use Rattle.nb_engine.specs.Frame.{EachImage, KeepsApart, RanSession};
+ghost use Rattle.nb_engine.specs.Frame.{EachImage, KeepsOutsideRun, RanSession};
 ghost use Rattle.nb_engine.specs.Histories.{History, IsHistory};
 ghost use Rattle.nb_engine.specs.Refusal.{NeedsNoCause};
 ghost use Rattle.nb_engine.specs.Represents.{RepresentsRun};
-ghost use Rattle.nb_engine.specs.Sessions.{IsPace, ticks_left, ticks_to, aimed_at, IsLed, SessionLeads, GoLeads, ResumeLeads, IsNoLeg, IsGoRefused, CanGo, CanResume, IsSlotSpoilt, IsOfGo, IsOfLeg, IsBroughtUp, IsOfResume};
-ghost use Rattle.nb_engine.specs.Shown.{IsNotShown};
+ghost use Rattle.nb_engine.specs.Sessions.{IsPace, ticks_left, ticks_to, aimed_at, IsLed, SessionLeads, GoLeads, ResumeLeads, IsNoLeg, IsGoRefused, IsGoReady, IsResumeReady, IsSlotDamaged, IsOfGo, IsOfLeg, IsBroughtUp, IsOfResume};
+ghost use Rattle.nb_engine.specs.Shown.{IsShowRefused};
 ghost use Rattle.nb_engine.specs.Snapshots.{snapshot_files};
 
 use crate::laws::law_times;
@@ -55,11 +55,11 @@ pub fn go<H: Host>(alloc: Global, host: &mut H, pace: Pace, target: u64) -> Resu
         → IsLed (ticks_to target h) (aimed_at target h) (H.meaning.contents host.old) done
         (H.meaning.contents host.new)) }
     ensures there { IfOk result (λ done. done.time ≡ target) }
-    ensures ready { OnOk result (IsTrue H.meaning.tells → CanGo target (H.meaning.contents host.old).file) }
+    ensures ready { OnOk result (IsTrue H.meaning.tells → IsGoReady target (H.meaning.contents host.old).file) }
     ensures durable { OnOk result (IsDurable H.meaning host.new) }
     ensures cause { IfErr result (λ why. IsTrue H.meaning.tells → NeedsNoCause why
         ⊎ IsGoRefused target (H.meaning.contents host.old).file why
-        ⊎ IsSlotSpoilt (H.meaning.contents host.old).file why) }
+        ⊎ IsSlotDamaged (H.meaning.contents host.old).file why) }
     ensures refusals { IfErr result IsOfGo }
     ensures refused { IfErr result (λ why. IsOfLeg why → IsBroughtUp H.meaning host.old host.new) }
     ensures unsynced { IsTrue H.meaning.tells
@@ -91,11 +91,11 @@ pub fn resume<H: Host>(alloc: Global, host: &mut H, pace: Pace) -> Result<Done, 
         (H.meaning.contents host.new)) }
     ensures there { IfOk result (λ done. IsTrue H.meaning.tells → (log : Log)
         → IsJournal log ((H.meaning.contents host.old).file journal_file) → done.time ≡ (progress_of log).target) }
-    ensures ready { OnOk result (IsTrue H.meaning.tells → CanResume (H.meaning.contents host.old).file) }
+    ensures ready { OnOk result (IsTrue H.meaning.tells → IsResumeReady (H.meaning.contents host.old).file) }
     ensures durable { OnOk result (IsDurable H.meaning host.new) }
     ensures cause { IfErr result (λ why. IsTrue H.meaning.tells → NeedsNoCause why
-        ⊎ IsNotShown ((H.meaning.contents host.old).file journal_file) why
-        ⊎ IsSlotSpoilt (H.meaning.contents host.old).file why) }
+        ⊎ IsShowRefused ((H.meaning.contents host.old).file journal_file) why
+        ⊎ IsSlotDamaged (H.meaning.contents host.old).file why) }
     ensures refusals { IfErr result IsOfResume }
     ensures unsynced { IsTrue H.meaning.tells
         → ((log : Log) → IsJournal log ((H.meaning.contents host.old).file journal_file) → ⊥)

@@ -12,7 +12,7 @@ ghost use Rattle.nb_journal.specs.Entries.{IsNextLeg};
 ghost use Rattle.nb_journal.specs.Form.{IsLawful, IsCleanJournal, progress_of};
 ghost use Rattle.nb_journal.specs.Offsets.{journal_file};
 ghost use Rattle.nb_engine.specs.Acknowledged.{IsAcknowledgedUpTo, IsOtherText};
-ghost use Rattle.nb_engine.specs.Histories.{Run, state_of, time_of, length_of, IsRun, History, run_of, ticks_of, IsHistory, ticked, legged};
+ghost use Rattle.nb_engine.specs.Histories.{Run, state_at, time_at, run_length, IsRun, History, run_of, ticks_of, IsHistory, ticked, legged};
 ghost use Rattle.nb_tick.specs.Slots.{slot_of};
 ghost use Rattle.nb_engine.specs.Files.{init_file};
 ghost use Rattle.nb_engine.specs.Represents.{snap_of, RepresentsRun};
@@ -24,14 +24,14 @@ use nb_model::law_back;
 /// A run from tick to tick: each list is valid, bodies that are out stay out, and the journal's time is the
 /// run's.
 pub fn law_run()
-    ensures begin { (run : Run) → (state_of run 0 ≡ run.bodies) × (time_of run 0 ≡ run.begin) }
+    ensures begin { (run : Run) → (state_at run 0 ≡ run.bodies) × (time_at run 0 ≡ run.begin) }
     ensures valid { (run : Run) (k : ℕ) → IsRun run
-        → IsValidBodies run.params (state_of run k) }
+        → IsValidBodies run.params (state_at run k) }
     ensures out { (run : Run) (i k : ℕ) → i ≤ k
-        → escaped_count (state_of run i) ≤ escaped_count (state_of run k) }
-    ensures within { (h : History) → IsLawful h.log → ticks_of h ≤ length_of (run_of h) }
+        → escaped_count (state_at run i) ≤ escaped_count (state_at run k) }
+    ensures within { (h : History) → IsLawful h.log → ticks_of h ≤ run_length (run_of h) }
     ensures time { (h : History) → IsLawful h.log
-        → (progress_of h.log).time ≡ time_of (run_of h) (ticks_of h) }
+        → (progress_of h.log).time ≡ time_at (run_of h) (ticks_of h) }
 {}
 
 /// Where no body became out, a run has one list for each time: its states at equal times are equal, and at
@@ -39,20 +39,20 @@ pub fn law_run()
 /// time those of the initial snapshot.
 pub fn law_times()
     ensures states { (run : Run) (k i j : ℕ) → IsRun run
-        → escaped_count (state_of run k) ≡ escaped_count run.bodies → i ≤ k → j ≤ k
-        → time_of run i ≡ time_of run j → state_of run i ≡ state_of run j }
+        → escaped_count (state_at run k) ≡ escaped_count run.bodies → i ≤ k → j ≤ k
+        → time_at run i ≡ time_at run j → state_at run i ≡ state_at run j }
     ensures snapshots { (h : History) (image : Image) (i j : ℕ) → IsHistory h
         → RepresentsRun h image
-        → escaped_count (state_of (run_of h) (ticks_of h)) ≡ escaped_count h.bodies
+        → escaped_count (state_at (run_of h) (ticks_of h)) ≡ escaped_count h.bodies
         → 1 ≤ i → i ≤ ticks_of h → 1 ≤ j → j ≤ ticks_of h
-        → time_of (run_of h) i ≡ time_of (run_of h) j
+        → time_at (run_of h) i ≡ time_at (run_of h) j
         → IsFinishedSnapshot (length h.bodies) (image.file (snap_of i))
         → IsFinishedSnapshot (length h.bodies) (image.file (snap_of j))
         → image.file (snap_of i) ≡ image.file (snap_of j) }
     ensures back { (h : History) (image : Image) (i : ℕ) → IsHistory h
         → RepresentsRun h image
-        → escaped_count (state_of (run_of h) (ticks_of h)) ≡ escaped_count h.bodies
-        → 1 ≤ i → i ≤ ticks_of h → time_of (run_of h) i ≡ h.log.begin_time
+        → escaped_count (state_at (run_of h) (ticks_of h)) ≡ escaped_count h.bodies
+        → 1 ≤ i → i ≤ ticks_of h → time_at (run_of h) i ≡ h.log.begin_time
         → IsFinishedSnapshot (length h.bodies) (image.file (snap_of i))
         → image.file (snap_of i) ≡ image.file init_file }
 {

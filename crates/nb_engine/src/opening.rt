@@ -10,10 +10,10 @@ ghost use Rattle.nb_engine.specs.Frame.{EachImage, RanSession};
 ghost use Rattle.nb_engine.specs.Histories.{History, IsHistory};
 ghost use Rattle.nb_engine.specs.Refusal.{NeedsNoCause};
 ghost use Rattle.nb_engine.specs.Represents.{RepresentsRun};
-ghost use Rattle.nb_engine.specs.Sessions.{IsPace, OpenLeads, IsSlotSpoilt};
-ghost use Rattle.nb_engine.specs.Shown.{IsNotShown, IsOfShow};
+ghost use Rattle.nb_engine.specs.Sessions.{IsPace, OpenLeads, IsSlotDamaged};
+ghost use Rattle.nb_engine.specs.Shown.{IsShowRefused, IsOfShow};
 ghost use Rattle.nb_engine.specs.Snapshots.{snapshot_files};
-ghost use Rattle.nb_engine.specs.Steps.{IsFlushed, IsUpToDate, GoesOn, HasPlayed};
+ghost use Rattle.nb_engine.specs.Steps.{IsFlushed, HoldsDueSnapshots, GoesOn, HasPlayed};
 
 use crate::due::is_last_due;
 use crate::going::Pace;
@@ -45,13 +45,13 @@ pub(crate) fn open<H: Host>(alloc: Global, host: &mut H, pace: Pace) -> Result<S
     ensures opened { IfOk result (λ session. IsTrue H.meaning.tells → (h : History) → IsHistory h
         → RepresentsRun h (H.meaning.contents host.old)
         → HasPlayed H.meaning 0 h (H.meaning.contents host.old) session.journal host.new
-        × IsUpToDate H.meaning h host.new) }
+        × HoldsDueSnapshots H.meaning h host.new) }
     ensures images { (h : History) → IsHistory h
         → RepresentsRun h (H.meaning.contents host.old)
         → EachImage H.meaning (GoesOn 0 h (H.meaning.contents host.old)) host.old host.new }
     ensures cause { IfErr result (λ why. IsTrue H.meaning.tells → NeedsNoCause why
-        ⊎ IsNotShown ((H.meaning.contents host.old).file journal_file) why
-        ⊎ IsSlotSpoilt (H.meaning.contents host.old).file why) }
+        ⊎ IsShowRefused ((H.meaning.contents host.old).file journal_file) why
+        ⊎ IsSlotDamaged (H.meaning.contents host.old).file why) }
     ensures refusals { IfErr result IsOfShow }
     ensures unsynced { IsTrue H.meaning.tells
         → ((log : Log) → IsJournal log ((H.meaning.contents host.old).file journal_file) → ⊥)
@@ -70,7 +70,7 @@ fn find_journal<H: Host>(host: &mut H) -> Result<Journal, Refusal>
     ensures found { IfOk result (λ journal. IsTrue H.meaning.tells
         → IsFound journal ((H.meaning.contents host.old).file journal_file)) }
     ensures cause { IfErr result (λ why. IsTrue H.meaning.tells → NeedsNoCause why
-        ⊎ IsNotShown ((H.meaning.contents host.old).file journal_file) why) }
+        ⊎ IsShowRefused ((H.meaning.contents host.old).file journal_file) why) }
     ensures refusals { IfErr result IsOfShow }
     ensures ran { Ran H.meaning Refusal.Device Stays host.old host.new result }
 {

@@ -15,11 +15,11 @@ ghost use Rattle.nb_record.specs.Order.{by_key, sorted_by, HoldsBodies};
 ghost use Rattle.nb_tick.specs.Slots.{slot_of, drifted_file};
 ghost use Rattle.nb_engine.specs.Files.{init_file};
 ghost use Rattle.nb_engine.specs.Frame.{RanSession};
-ghost use Rattle.nb_engine.specs.Reading.{census_of, IsCensus, plan_of, IsPlan, IsPlanned};
+ghost use Rattle.nb_engine.specs.Reading.{census_of, IsCensus, start_plan, IsPlan, IsPlanned};
 ghost use Rattle.nb_engine.specs.Refusal.{NeedsNoCause, of_second_reading};
 ghost use Rattle.nb_engine.specs.declared.refusal.Refusal.TheVariants as refusals;
-ghost use Rattle.nb_engine.specs.Snapshots.{IsBroken};
-ghost use Rattle.nb_engine.specs.Start.{Start, IsStartReady, IsStartRefused, RepresentsStart, TellsStart, StartLeads, place_of_body, IsCopyEnd, IsReadPlace, IsLaidPlace, IsOfStart};
+ghost use Rattle.nb_engine.specs.Snapshots.{IsPageDamaged};
+ghost use Rattle.nb_engine.specs.Start.{Start, IsStartReady, IsStartRefused, RepresentsStart, TellsStart, StartLeads, init_record_name, IsCopyEnd, IsReadPlace, IsLaidPlace, IsOfStart};
 
 use crate::files::{INIT_FILE, READ_FILE};
 use crate::init_file::{Census, survey};
@@ -49,7 +49,7 @@ pub struct Begun {
 
 /// What a run is to begin with. Its bodies aren't in memory.
 #[derive(Clone, Copy)]
-pub(crate) struct Plan {
+pub(crate) struct StartPlan {
     pub(crate) params: Params,
     pub(crate) time: u64,
     pub(crate) census: Census,
@@ -86,10 +86,10 @@ pub fn start<H: Host>(alloc: Global, host: &mut H, pages: u64) -> Result<Begun, 
 }
 
 /// What a run is to begin with, where none is started and one can begin. It only reads.
-fn plan_run<H: Host>(alloc: Global, host: &mut H) -> Result<Plan, Refusal>
+fn plan_run<H: Host>(alloc: Global, host: &mut H) -> Result<StartPlan, Refusal>
     ensures plan { IfOk result IsPlan }
     ensures ready { IfOk result (λ plan. IsTrue H.meaning.tells
-        → (start : Start) × IsStartReady (H.meaning.contents host.old).file start × (plan ≡ plan_of start)) }
+        → (start : Start) × IsStartReady (H.meaning.contents host.old).file start × (plan ≡ start_plan start)) }
     ensures cause { IfErr result (λ why. IsTrue H.meaning.tells → NeedsNoCause why
         ⊎ IsStartRefused (H.meaning.contents host.old).file why) }
     ensures refusals { IfErr result IsOfStart }
@@ -103,7 +103,7 @@ fn plan_run<H: Host>(alloc: Global, host: &mut H) -> Result<Plan, Refusal>
     if u128::from(params.grav) * u128::from(census.mass) >= u128::from(GM_LIMIT) {
         return Err(Refusal::TooHeavy(params.grav, census.mass));
     }
-    Ok(Plan {
+    Ok(StartPlan {
         params,
         time,
         census,
@@ -130,7 +130,7 @@ fn lay_bodies<H: Host>(
     host: &mut H,
     cache: &mut Cache,
     sorter: &mut Sorter,
-    plan: &Plan,
+    plan: &StartPlan,
 ) -> Result<(), Refusal>
     requires plan { IsPlan plan.now }
     requires written { cache.old.unwritten ≡ [] }
@@ -138,7 +138,7 @@ fn lay_bodies<H: Host>(
     ensures laid { OnOk result (IsTrue H.meaning.tells → (bodies : List Bodies)
         → IsPlanned plan.now bodies ((H.meaning.contents host.old).file init_file)
         → HoldsBodies ((H.meaning.contents host.new).file (slot_of 0)) (sorted_by by_key bodies)) }
-    ensures cause { IfErr result (λ why. NeedsNoCause why ⊎ IsBroken H.meaning (IsLaidPlace plan.now.census.count) (λ bodies.
+    ensures cause { IfErr result (λ why. NeedsNoCause why ⊎ IsPageDamaged H.meaning (IsLaidPlace plan.now.census.count) (λ bodies.
         IsPlanned plan.now bodies ((H.meaning.contents host.old).file init_file)) why) }
     ensures ran { RanCached H.meaning Refusal.Device (slot_of 0 ∷ drifted_file ∷ []) cache.old host.old
         cache.new host.new result }
@@ -159,7 +159,7 @@ fn lay_bodies<H: Host>(
 
 /// Reads the initial snapshot again, into a file of bodies, and answers what it counted of them. It has to be
 /// what was planned with.
-fn read_again<H: Host>(host: &mut H, cache: &mut Cache, plan: &Plan) -> Result<Census, Refusal>
+fn read_again<H: Host>(host: &mut H, cache: &mut Cache, plan: &StartPlan) -> Result<Census, Refusal>
     requires plan { IsPlan plan.now }
     requires written { cache.old.unwritten ≡ [] }
     requires in_step { IsInStep H.meaning cache.old host.old }
@@ -167,7 +167,7 @@ fn read_again<H: Host>(host: &mut H, cache: &mut Cache, plan: &Plan) -> Result<C
     ensures read { OnOk result (IsTrue H.meaning.tells → (bodies : List Bodies)
         → IsPlanned plan.now bodies ((H.meaning.contents host.old).file init_file)
         → HoldsBodies (seen H.meaning cache.new host.new drifted_file) bodies) }
-    ensures cause { IfErr result (λ why. NeedsNoCause why ⊎ IsBroken H.meaning (IsReadPlace plan.now.census.count) (λ bodies.
+    ensures cause { IfErr result (λ why. NeedsNoCause why ⊎ IsPageDamaged H.meaning (IsReadPlace plan.now.census.count) (λ bodies.
         IsPlanned plan.now bodies ((H.meaning.contents host.old).file init_file)) why) }
     ensures ran { RanCached H.meaning Refusal.Device (drifted_file ∷ []) cache.old host.old
         cache.new host.new result }
@@ -182,13 +182,13 @@ fn read_again<H: Host>(host: &mut H, cache: &mut Cache, plan: &Plan) -> Result<C
 }
 
 /// Reads the header of the initial snapshot again, which has to tell what was planned with. It only reads.
-fn begin_again<H: Host>(host: &mut H, plan: &Plan) -> Result<SnapReader, Refusal>
+fn begin_again<H: Host>(host: &mut H, plan: &StartPlan) -> Result<SnapReader, Refusal>
     ensures start { IfOk result (IsAtStart init_file) }
     ensures count { IfOk result (λ reader. count_of reader ≡ plan.now.census.count) }
     ensures time { IfOk result (λ reader. time_of reader ≡ plan.now.time) }
     ensures header { IfOk result (λ reader. IsTrue H.meaning.tells
         → HasRead reader ((H.meaning.contents host.old).file init_file) []) }
-    ensures cause { IfErr result (λ why. NeedsNoCause why ⊎ IsBroken H.meaning (λ page. page ≡ place_of_body 0) (λ bodies.
+    ensures cause { IfErr result (λ why. NeedsNoCause why ⊎ IsPageDamaged H.meaning (λ page. page ≡ init_record_name 0) (λ bodies.
         IsPlanned plan.now bodies ((H.meaning.contents host.old).file init_file)) why) }
     ensures ran { Ran H.meaning Refusal.Device Stays host.old host.new result }
 {
@@ -218,7 +218,7 @@ fn copy_bodies<H: Host>(
         → (bodies : List Bodies) × (census ≡ census_of bodies)
         × IsSnapshot ((H.meaning.contents host.old).file init_file) bodies (time_of reader)
         × HoldsBodies (seen H.meaning cache.new host.new drifted_file) bodies) }
-    ensures cause { IfErr result (λ why. NeedsNoCause why ⊎ IsBroken H.meaning (IsCopyEnd H.meaning reader cache.old host.old) (λ bodies.
+    ensures cause { IfErr result (λ why. NeedsNoCause why ⊎ IsPageDamaged H.meaning (IsCopyEnd H.meaning reader cache.old host.old) (λ bodies.
         HasRead reader ((H.meaning.contents host.old).file init_file) []
         × (seen H.meaning cache.old host.old drifted_file ≡ [])
         × ((time : ℕ) × IsSnapshot ((H.meaning.contents host.old).file init_file) bodies time)) why) }

@@ -6,7 +6,7 @@ ghost use Rattle.nb_host.specs.Meaning.{Ran};
 ghost use Rattle.nb_journal.specs.Form.{Log, IsJournal};
 ghost use Rattle.nb_journal.specs.Offsets.{journal_file};
 ghost use Rattle.nb_engine.specs.Refusal.{NeedsNoCause};
-ghost use Rattle.nb_engine.specs.Shown.{TellsLog, IsInReach, IsNotShown, IsOfShow};
+ghost use Rattle.nb_engine.specs.Shown.{TellsLog, IsInReach, IsShowRefused, IsOfShow};
 
 use crate::refusal::Refusal;
 use nb_host::Host;
@@ -37,7 +37,7 @@ pub fn show<H: Host>(host: &mut H) -> Result<Shown, Refusal>
         → (log : Log) × IsJournal log ((H.meaning.contents host.old).file journal_file) × TellsLog log shown) }
     ensures reach { IfOk result IsInReach }
     ensures cause { IfErr result (λ why. IsTrue H.meaning.tells → NeedsNoCause why
-        ⊎ IsNotShown ((H.meaning.contents host.old).file journal_file) why) }
+        ⊎ IsShowRefused ((H.meaning.contents host.old).file journal_file) why) }
     ensures refusals { IfErr result IsOfShow }
     ensures ran { Ran H.meaning Refusal.Device Stays host.old host.new result }
 {

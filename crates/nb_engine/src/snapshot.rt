@@ -7,7 +7,7 @@ ghost use Rattle.nb_host.specs.Crashes.{AgreesOutside, Stays};
 ghost use Rattle.nb_host.specs.Meaning.{IsDurable, Leads};
 ghost use Rattle.nb_format.specs.Images.{ChangesWith, IsBeingWritten, IsWritten};
 ghost use Rattle.nb_format.specs.Snapshot.{IsSnapshot, IsFinishedSnapshot};
-ghost use Rattle.nb_format.specs.Writer.{Plan, plan_of, added_count, last_added, StaysUnfinished};
+ghost use Rattle.nb_format.specs.Writer.{SnapshotPlan, plan_of, added_count, last_added, StaysUnfinished};
 ghost use Rattle.nb_cache.specs.View.{seen};
 ghost use Rattle.nb_tick.specs.Slots.{slot_of, sorted_file};
 ghost use Rattle.nb_engine.specs.Due.{TellsDue};
@@ -15,8 +15,8 @@ ghost use Rattle.nb_engine.specs.Frame.{EachImage, RanSession};
 ghost use Rattle.nb_engine.specs.Histories.{History};
 ghost use Rattle.nb_engine.specs.Refusal.{NeedsNoCause};
 ghost use Rattle.nb_engine.specs.Represents.{snap_of};
-ghost use Rattle.nb_engine.specs.Snapshots.{snapshot_files, HoldsByIds, HoldsByKeys, IsEnd, IsSnapshotPage, IsBroken};
-ghost use Rattle.nb_engine.specs.Steps.{IsCheckpoint, IsFlushed, IsSpoilt, IsUpToDate, GoesOn, HasPlayed};
+ghost use Rattle.nb_engine.specs.Snapshots.{snapshot_files, HoldsByIds, HoldsByKeys, IsEnd, IsSnapshotPage, IsPageDamaged};
+ghost use Rattle.nb_engine.specs.Steps.{IsCheckpoint, IsFlushed, IsStateDamaged, HoldsDueSnapshots, GoesOn, HasPlayed};
 
 use crate::files::{SORTED_FILE, snapshot_file};
 use crate::refusal::Refusal;
@@ -43,13 +43,13 @@ pub(crate) fn finish<H: Host>(
     ensures durable { OnOk result (IsDurable H.meaning host.old → IsDurable H.meaning host.new) }
     ensures finished { OnOk result ((h : History) → TellsDue h due → IsCheckpoint H.meaning h journal.now host.old
         → HasPlayed H.meaning 0 h (H.meaning.contents host.old) journal.now host.new
-        × IsUpToDate H.meaning h host.new) }
+        × HoldsDueSnapshots H.meaning h host.new) }
     ensures images { (h : History) → TellsDue h due → IsCheckpoint H.meaning h journal.now host.old
         → EachImage H.meaning (GoesOn 0 h (H.meaning.contents host.old)) host.old host.new }
     ensures spared { IsTrue H.meaning.tells → (IsTrue due → ⊥)
         ⊎ IsFinishedSnapshot journal.now.count ((H.meaning.contents host.old).file (snap_of journal.now.progress.ticks))
         → Leads H.meaning Stays host.old host.new }
-    ensures cause { IfErr result (λ why. NeedsNoCause why ⊎ IsSpoilt H.meaning journal.now host.old why) }
+    ensures cause { IfErr result (λ why. NeedsNoCause why ⊎ IsStateDamaged H.meaning journal.now host.old why) }
     ensures ran { RanSession H.meaning (AgreesOutside (snapshot_files journal.now.progress.ticks))
         host.old host.new result }
 {
@@ -84,7 +84,7 @@ fn write_snapshot<H: Host>(
         → Leads H.meaning (ChangesWith (sorted_file ∷ []) (snap_of journal.now.progress.ticks)
         (IsWritten bodies journal.now.progress.time)) host.old host.new }
     ensures cause { IfErr result (λ why. NeedsNoCause why
-        ⊎ IsBroken H.meaning (IsSnapshotPage journal.now.progress.ticks) (λ bodies.
+        ⊎ IsPageDamaged H.meaning (IsSnapshotPage journal.now.progress.ticks) (λ bodies.
         HoldsByKeys journal.now.count bodies
         ((H.meaning.contents host.old).file (slot_of journal.now.progress.ticks))) why) }
     ensures ran { RanSession H.meaning (AgreesOutside (snapshot_files journal.now.progress.ticks))
@@ -125,15 +125,15 @@ fn add_bodies<H: Host>(
     ensures settled { OnOk result (IsFlushed H.meaning cache.new host.new) }
     ensures pages { OnOk result (cache.new.pages ≡ cache.old.pages) }
     ensures full { IfOk result (λ full. (plan_of full ≡ plan_of filling) × (added_count full ≡ count)) }
-    ensures added { IsTrue H.meaning.tells → (plan : Plan) (bodies : List Bodies) (start : H)
+    ensures added { IsTrue H.meaning.tells → (plan : SnapshotPlan) (bodies : List Bodies) (start : H)
         → HoldsByIds count bodies (seen H.meaning cache.old host.old sorted_file)
         → IsBeingWritten H.meaning (sorted_file ∷ []) plan filling [] start host.old
         → IfOk result (λ full. IsBeingWritten H.meaning (sorted_file ∷ []) plan full bodies start host.new) }
-    ensures refused { (plan : Plan) (start : H)
+    ensures refused { (plan : SnapshotPlan) (start : H)
         → IsBeingWritten H.meaning (sorted_file ∷ []) plan filling [] start host.old
         → Leads H.meaning (ChangesWith (sorted_file ∷ []) plan.file StaysUnfinished) start host.new }
     ensures cause { IfErr result (λ why. NeedsNoCause why
-        ⊎ IsBroken H.meaning (IsEnd H.meaning count cache.old host.old) (λ bodies.
+        ⊎ IsPageDamaged H.meaning (IsEnd H.meaning count cache.old host.old) (λ bodies.
         HoldsByIds count bodies (seen H.meaning cache.old host.old sorted_file)) why) }
     ensures ran { RanSession H.meaning (AgreesOutside (sorted_file ∷ (plan_of filling).file ∷ []))
         host.old host.new result }

@@ -11,12 +11,12 @@ ghost use Rattle.nb_journal.specs.Counters.{Answers, counters_after};
 ghost use Rattle.nb_journal.specs.declared.entry.Entry.TheVariants as entries;
 ghost use Rattle.nb_tick.specs.Slots.{slot_of};
 ghost use Rattle.nb_engine.specs.declared.refusal.Refusal.TheVariants as refusals;
-ghost use Rattle.nb_engine.specs.Frame.{EachImage, KeepsApart, RanSession};
-ghost use Rattle.nb_engine.specs.Histories.{History, state_of, run_of, ticks_of, IsHistory, ticked};
+ghost use Rattle.nb_engine.specs.Frame.{EachImage, KeepsOutsideRun, RanSession};
+ghost use Rattle.nb_engine.specs.Histories.{History, state_at, run_of, ticks_of, IsHistory, ticked};
 ghost use Rattle.nb_engine.specs.Refusal.{NeedsNoCause};
 ghost use Rattle.nb_engine.specs.Represents.{RepresentsRun};
 ghost use Rattle.nb_engine.specs.Sessions.{ticks_left};
-ghost use Rattle.nb_engine.specs.Steps.{played, IsCheckpoint, IsFlushed, HasState, IsSpoilt, fill_files, IsFilled, HasNext, GoesOn, HasPlayed, IsUpToDate};
+ghost use Rattle.nb_engine.specs.Steps.{played, IsCheckpoint, IsFlushed, HasState, IsStateDamaged, fill_files, IsFilled, HasNextState, GoesOn, HasPlayed, HoldsDueSnapshots};
 
 use crate::due::is_due;
 use crate::files::snapshot_file;
@@ -41,14 +41,14 @@ pub(crate) fn run_leg<H: Host>(
     ensures target { IfOk result (λ next. next.progress.target ≡ journal.progress.target) }
     ensures still { journal.progress.time ≡ journal.progress.target → Leads H.meaning Stays host.old host.new }
     ensures run { IfOk result (λ next. (h : History) → IsCheckpoint H.meaning h journal host.old
-        → IsUpToDate H.meaning h host.old
+        → HoldsDueSnapshots H.meaning h host.old
         → HasPlayed H.meaning (ticks_left journal.progress) h (H.meaning.contents host.old) next host.new
-        × IsUpToDate H.meaning (played (ticks_left journal.progress) h) host.new) }
-    ensures images { (h : History) → IsCheckpoint H.meaning h journal host.old → IsUpToDate H.meaning h host.old
+        × HoldsDueSnapshots H.meaning (played (ticks_left journal.progress) h) host.new) }
+    ensures images { (h : History) → IsCheckpoint H.meaning h journal host.old → HoldsDueSnapshots H.meaning h host.old
         → EachImage H.meaning (GoesOn (ticks_left journal.progress) h (H.meaning.contents host.old))
         host.old host.new }
-    ensures cause { IfErr result (λ why. NeedsNoCause why ⊎ IsSpoilt H.meaning journal host.old why) }
-    ensures ran { RanSession H.meaning KeepsApart host.old host.new result }
+    ensures cause { IfErr result (λ why. NeedsNoCause why ⊎ IsStateDamaged H.meaning journal host.old why) }
+    ensures ran { RanSession H.meaning KeepsOutsideRun host.old host.new result }
 {
     let mut journal = journal;
     let left = journal.time().abs_diff(journal.target());
@@ -67,16 +67,16 @@ fn step<H: Host>(host: &mut H, work: &mut Workspace, journal: Journal) -> Result
     ensures counters { IfOk result (λ next. (gone : ℕ)
         × (next ≡ counters_after (entries.Tick (suc journal.progress.ticks) gone) journal)) }
     ensures ticked { IfOk result (λ next. (h : History) → IsCheckpoint H.meaning h journal host.old
-        → IsUpToDate H.meaning h host.old
+        → HoldsDueSnapshots H.meaning h host.old
         → HasPlayed H.meaning 1 h (H.meaning.contents host.old) next host.new
-        × IsUpToDate H.meaning (ticked h) host.new) }
+        × HoldsDueSnapshots H.meaning (ticked h) host.new) }
     ensures next { IfOk result (λ next. IsTrue H.meaning.tells → (bodies : List Bodies)
         → HasState journal bodies (H.meaning.contents host.old).file
         → (later : List Bodies) × HasState next later (H.meaning.contents host.new).file) }
-    ensures images { (h : History) → IsCheckpoint H.meaning h journal host.old → IsUpToDate H.meaning h host.old
+    ensures images { (h : History) → IsCheckpoint H.meaning h journal host.old → HoldsDueSnapshots H.meaning h host.old
         → EachImage H.meaning (GoesOn 1 h (H.meaning.contents host.old)) host.old host.new }
-    ensures cause { IfErr result (λ why. NeedsNoCause why ⊎ IsSpoilt H.meaning journal host.old why) }
-    ensures ran { RanSession H.meaning KeepsApart host.old host.new result }
+    ensures cause { IfErr result (λ why. NeedsNoCause why ⊎ IsStateDamaged H.meaning journal host.old why) }
+    ensures ran { RanSession H.meaning KeepsOutsideRun host.old host.new result }
 {
     let next = tick_once(host, work, journal)?;
     let due = is_due(&next);
@@ -97,15 +97,15 @@ fn tick_once<H: Host>(
     ensures counters { IfOk result (λ next. (gone : ℕ)
         × (next ≡ counters_after (entries.Tick (suc journal.progress.ticks) gone) journal)) }
     ensures ticked { IfOk result (λ next. (h : History) → IsCheckpoint H.meaning h journal host.old
-        → IsUpToDate H.meaning h host.old
+        → HoldsDueSnapshots H.meaning h host.old
         → HasPlayed H.meaning 1 h (H.meaning.contents host.old) next host.new) }
     ensures next { IfOk result (λ next. IsTrue H.meaning.tells → (bodies : List Bodies)
         → HasState journal bodies (H.meaning.contents host.old).file
         → (later : List Bodies) × HasState next later (H.meaning.contents host.new).file) }
-    ensures images { (h : History) → IsCheckpoint H.meaning h journal host.old → IsUpToDate H.meaning h host.old
+    ensures images { (h : History) → IsCheckpoint H.meaning h journal host.old → HoldsDueSnapshots H.meaning h host.old
         → EachImage H.meaning (GoesOn 1 h (H.meaning.contents host.old)) host.old host.new }
-    ensures cause { IfErr result (λ why. NeedsNoCause why ⊎ IsSpoilt H.meaning journal host.old why) }
-    ensures ran { RanSession H.meaning KeepsApart host.old host.new result }
+    ensures cause { IfErr result (λ why. NeedsNoCause why ⊎ IsStateDamaged H.meaning journal host.old why) }
+    ensures ran { RanSession H.meaning KeepsOutsideRun host.old host.new result }
 {
     let ticks = journal.ticks();
     let gone = fill(host, work, &journal)?;
@@ -141,12 +141,12 @@ fn fill<H: Host>(host: &mut H, work: &mut Workspace, journal: &Journal) -> Resul
     ensures filled { IfOk result (λ gone. IsTrue H.meaning.tells → (h : History)
         → Answers h.log journal.now → IsHistory h → RepresentsRun h (H.meaning.contents host.old)
         → IsFilled h (H.meaning.contents host.new)
-        × (gone ≡ escaped_count (state_of (run_of h) (suc (ticks_of h))))) }
+        × (gone ≡ escaped_count (state_at (run_of h) (suc (ticks_of h))))) }
     ensures most { IfOk result (λ gone. gone ≤ journal.now.count) }
     ensures next { IfOk result (λ gone. IsTrue H.meaning.tells → (bodies : List Bodies)
         → HasState journal.now bodies (H.meaning.contents host.old).file
-        → HasNext journal.now gone (H.meaning.contents host.new).file) }
-    ensures cause { IfErr result (λ why. NeedsNoCause why ⊎ IsSpoilt H.meaning journal.now host.old why) }
+        → HasNextState journal.now gone (H.meaning.contents host.new).file) }
+    ensures cause { IfErr result (λ why. NeedsNoCause why ⊎ IsStateDamaged H.meaning journal.now host.old why) }
     ensures ran { RanSession H.meaning (AgreesOutside (fill_files journal.now.progress.ticks))
         host.old host.new result }
 {

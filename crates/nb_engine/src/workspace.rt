@@ -2,7 +2,7 @@
 
 ghost use Rattle.std.specs.Prelude.{◌≡◌, ◌≤◌, ◌^◌, [], IfOk};
 ghost use Rattle.nb_host.specs.Image.{Image};
-ghost use Rattle.nb_cache.specs.InStep.{Fits};
+ghost use Rattle.nb_cache.specs.InStep.{IsCoherent};
 ghost use Rattle.nb_engine.specs.Sessions.{IsPace};
 
 use crate::going::Pace;
@@ -29,7 +29,7 @@ impl Workspace {
         requires { IsPace pace }
         ensures pages { IfOk result (λ work. work.cache.pages ≡ pace.pages) }
         ensures walks { IfOk result (λ work. work.pool.room ≡ pace.walks) }
-        ensures fits { IfOk result (λ work. (image : Image) → Fits work.cache image) }
+        ensures fits { IfOk result (λ work. (image : Image) → IsCoherent work.cache image) }
         ensures written { IfOk result (λ work. work.cache.unwritten ≡ []) }
     {
         Ok(Workspace {
@@ -46,7 +46,7 @@ pub(crate) fn cache_of(alloc: Global, pages: u64) -> Result<Cache, NoMemory>
     requires least { 4 ≤ pages }
     requires most { pages ≤ 2 ^ 18 }
     ensures pages { IfOk result (λ cache. cache.pages ≡ pages) }
-    ensures fits { IfOk result (λ cache. (image : Image) → Fits cache image) }
+    ensures fits { IfOk result (λ cache. (image : Image) → IsCoherent cache image) }
     ensures written { IfOk result (λ cache. cache.unwritten ≡ []) }
 {
     Cache::new(alloc, pages as usize)

@@ -5,15 +5,15 @@ ghost use Rattle.nb_model.specs.Limits.{gm_limit, kick_limit, speed_limit, most_
 ghost use Rattle.nb_model.specs.Vector.{zero_vector};
 ghost use Rattle.nb_model.specs.Gravity.{force_on};
 ghost use Rattle.nb_model.specs.Octree.{total_mass};
-ghost use Rattle.nb_model.specs.Leapfrog.{in_box, escaped_count, changed, accelerate, kick, is_coordinate, is_position, position_of, vector_of, wrapped, drifted, drift_of, drift_body, drift, step};
-ghost use Rattle.nb_model.specs.Valid.{AreInRange, IsInBox, IsBelow, IsValidBody, IsKickedBody, IsValidBodies};
+ghost use Rattle.nb_model.specs.Leapfrog.{unescaped, escaped_count, changed, accelerate, kick, is_coordinate, is_position, position_of, vector_of, wrapped, drifted, drift_of, drift_body, drift, step};
+ghost use Rattle.nb_model.specs.Valid.{AreInRange, IsInBox, IsBelow, IsValidBody, IsBodyAfterKick, IsValidBodies};
 
 use crate::recursion::{force_on, plus};
 use nb_model::{At, BOX_SIDE, Body, Edge, NoMemory, Params, V3, Way};
 use std::alloc::{AllocError, Global};
 
-fn in_box(alloc: Global, bodies: &[Body]) -> Result<Vec<Body>, NoMemory>
-    ensures { IfOk result (λ inside. inside.items ≡ in_box bodies.now) }
+fn unescaped(alloc: Global, bodies: &[Body]) -> Result<Vec<Body>, NoMemory>
+    ensures { IfOk result (λ inside. inside.items ≡ unescaped bodies.now) }
 {
     bodies
         .iter()
@@ -39,7 +39,7 @@ fn changed(way: Way, vector: V3, change: V3) -> V3
     }
 }
 
-/// A body in the box after a half kick, in box units a tick: forward it gains it, and back it loses it.
+/// An unescaped body after a half kick, in box units a tick: forward it gains it, and back it loses it.
 pub fn accelerate(way: Way, kick: &V3, body: Body) -> Body
     requires body { IsValidBody body }
     requires present { body.out ≡ false }
@@ -52,7 +52,7 @@ pub fn accelerate(way: Way, kick: &V3, body: Body) -> Body
     }
 }
 
-/// A body of a valid list after its half kick, where `inside` are the list's bodies in the box.
+/// A body of a valid list after its half kick, where `inside` are the list's unescaped bodies.
 fn kicked_body(
     alloc: Global,
     params: &Params,
@@ -86,7 +86,7 @@ pub fn kick(
     requires valid { IsValidBodies params.now bodies.now }
     ensures { IfOk result (λ kicked. kicked.items ≡ kick params.now way bodies.now) }
 {
-    let inside = in_box(alloc, bodies)?;
+    let inside = unescaped(alloc, bodies)?;
     let mut kicked = Vec::with_capacity(alloc, bodies.len())?;
     for body in bodies {
         kicked.push(kicked_body(alloc, params, way, &inside, *body)?)?;
@@ -172,7 +172,7 @@ fn drift_of(way: Way, v: V3) -> V3
 
 /// A body after its drift: moved, or out where the drift leads nowhere in the box. One that is out stays.
 pub fn drift_body(params: &Params, way: Way, body: Body) -> Body
-    requires { IsKickedBody body }
+    requires { IsBodyAfterKick body }
     ensures { result ≡ drift_body params.now way body }
 {
     if body.out {
@@ -185,7 +185,7 @@ pub fn drift_body(params: &Params, way: Way, body: Body) -> Body
 }
 
 fn drift(params: &Params, way: Way, bodies: &mut [Body])
-    requires { All IsKickedBody bodies.old }
+    requires { All IsBodyAfterKick bodies.old }
     ensures { bodies.new ≡ drift params.now way bodies.old }
 {
     for body in bodies.iter_mut() {

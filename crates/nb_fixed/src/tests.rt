@@ -38,7 +38,7 @@ fn params(edge: Edge, grav: u64, theta_num: u64, theta_den: u64, leaf: u64) -> P
     }
 }
 
-/// A body in the box on the middle line of the x axis, or on its edge where `y` and `z` are 0.
+/// An unescaped body on the middle line of the x axis, or on its edge where `y` and `z` are 0.
 fn body(id: u64, mass: u32, at: At, x: i64) -> Body {
     Body {
         id,

@@ -8,9 +8,9 @@ use Rattle.nb_host.specs.Image.{Image}
 use Rattle.nb_host.specs.Page.{IsRising, IsBefore, page_of}
 use Rattle.nb_host.specs.declared.page_name.PageName.{PageName}
 use Rattle.nb_host.specs.declared.page_name.TheConstants.{PAGE_SIZE}
-use Rattle.nb_cache.specs.InStep.{IsCacheable, Fits}
+use Rattle.nb_cache.specs.InStep.{IsCacheable, IsCoherent}
 use Rattle.nb_cache.specs.Names.{used, without}
-use Rattle.nb_cache.specs.View.{CacheValue, names_of, shown, view_of}
+use Rattle.nb_cache.specs.View.{CacheValue, names_of, resident_bytes, view_of}
 use Rattle.nb_record.specs.declared.tree.Tree.{Tree}
 use Rattle.nb_walk.specs.Page.{IsShown}
 use Rattle.nb_walk.specs.Shown.{Shows}
@@ -20,18 +20,18 @@ use Rattle.nb_force.specs.Rounds.{shown_of, HasOneOf}
 
 module _ (cache : CacheValue) (tree : Tree) where
   pub window_shows : (image : Image)
-      → ((i : Image) (name : PageName) (bytes : List ℕ) → Fits cache i → shown cache.held name ≡ Some bytes
+      → ((i : Image) (name : PageName) (bytes : List ℕ) → IsCoherent cache i → resident_bytes cache.held name ≡ Some bytes
       → (bytes ≡ page_of (view_of cache i name.file) name.page) × (length bytes ≡ PAGE_SIZE))
-      → Fits cache image → Shows (shown_of cache tree.cells) (shown_of cache tree.bodies) tree (view_of cache image)
+      → IsCoherent cache image → Shows (shown_of cache tree.cells) (shown_of cache tree.bodies) tree (view_of cache image)
   window_shows image all fits = record {
     cell = λ page bytes is. (all image (record { file = tree.cells; page = page }) bytes fits is).0;
     body = λ page bytes is. (all image (record { file = tree.bodies; page = page }) bytes fits is).0;
   }
 
-  pub window_shown : (name : PageName) → shown cache.held name ≢ None → IsShown (shown_of cache tree.cells) (shown_of cache tree.bodies) tree name
+  pub window_shown : (name : PageName) → resident_bytes cache.held name ≢ None → IsShown (shown_of cache tree.cells) (shown_of cache tree.bodies) tree name
   window_shown name some = record {
-    as_cells = λ file. subst (λ f. shown cache.held (record { file = f; page = name.page }) ≢ None) file some;
-    as_bodies = λ file. subst (λ f. shown cache.held (record { file = f; page = name.page }) ≢ None) file some;
+    as_cells = λ file. subst (λ f. resident_bytes cache.held (record { file = f; page = name.page }) ≢ None) file some;
+    as_bodies = λ file. subst (λ f. resident_bytes cache.held (record { file = f; page = name.page }) ≢ None) file some;
   }
 
 -- ---- the first names

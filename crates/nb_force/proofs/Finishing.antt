@@ -8,7 +8,7 @@ use Rattle.nb_host.specs.Page.{HasPage}
 use Rattle.nb_host.specs.declared.page_name.PageName.{PageName}
 use Rattle.nb_model.specs.declared.body.Body.{Body}
 use Rattle.nb_model.specs.declared.params.Params.{Params}
-use Rattle.nb_cache.specs.InStep.{IsCachedFile, IsCacheable, Fits}
+use Rattle.nb_cache.specs.InStep.{IsCachedFile, IsCacheable, IsCoherent}
 use Rattle.nb_cache.specs.View.{CacheValue, seen, view_of, IsWhole}
 use Rattle.nb_cache.specs.Writes.{Writes}
 use Rattle.nb_record.specs.declared.tree.Tree.{Tree}
@@ -49,7 +49,7 @@ module _ {H : Type 0} {m : HostModel H} (params : Params) (tree : Tree) (old_cac
 
   -- and go on
   pub advance_on : (before after : List PooledWalk) {T E : Type 0} (result : Result T E)
-      → ((image : Image) (bodies : List Body) → Fits new_cache image → IsTreeOf tree (view_of new_cache image) params bodies
+      → ((image : Image) (bodies : List Body) → IsCoherent new_cache image → IsTreeOf tree (view_of new_cache image) params bodies
       → AreOn params bodies tree (view_of new_cache image tree.cells) before → IsOk result × AreOn params bodies tree (view_of new_cache image tree.cells) after)
       → IsTrue m.tells → (bodies : List Body) → IsTreeOf tree (seen m old_cache old) params bodies → AreOn params bodies tree (seen m old_cache old tree.cells) before
       → IsOk result × AreOn params bodies tree (seen m old_cache old tree.cells) after

@@ -6,7 +6,7 @@ use Rattle.nb_host.specs.declared.page_name.PageName.{PageName}
 use Rattle.nb_model.specs.declared.body.Body.{Body}
 use Rattle.nb_model.specs.declared.body.V3.{V3}
 use Rattle.nb_model.specs.declared.params.Params.{Params}
-use Rattle.nb_model.specs.Leapfrog.{in_box}
+use Rattle.nb_model.specs.Leapfrog.{unescaped}
 use Rattle.nb_cache.specs.View.{CacheValue, seen}
 use Rattle.nb_cache.specs.Writes.{Writes}
 use Rattle.nb_record.specs.declared.tree.Tree.{Tree}
@@ -24,10 +24,10 @@ use Rattle.nb_force.proofs.Lists.{range_one, mapped_at}
 use Rattle.nb_force.proofs.Takes.{takes_one, takes_after, no_range_after}
 use Rattle.nb_force.proofs.Views.{KeepsTree, tree_before, tree_after, reads_keep, at_front, in_order_present}
 
-front_within : (bodies : List Body) → length (in_box bodies) ≤ length (sorted_by by_key bodies)
+front_within : (bodies : List Body) → length (unescaped bodies) ≤ length (sorted_by by_key bodies)
 front_within bodies =
-    let same : length (take (length (in_box bodies)) (sorted_by by_key bodies)) ≡ length (in_box bodies) = ap length (front bodies) ∙ length-sorted_by by_key (in_box bodies) in
-    omega (arith, same, length-take (length (in_box bodies)) (sorted_by by_key bodies))
+    let same : length (take (length (unescaped bodies)) (sorted_by by_key bodies)) ≡ length (unescaped bodies) = ap length (front bodies) ∙ length-sorted_by by_key (unescaped bodies) in
+    omega (arith, same, length-take (length (unescaped bodies)) (sorted_by by_key bodies))
 
 module _ {H : Type 0} {m : HostModel H} (params : Params) (tree : Tree) {cache : CacheValue} {host : H} (index : ℕ) (below : index < tree.count) where
   -- a body that isn't there is no tree's

@@ -9,7 +9,7 @@ use Rattle.std.proofs.Math.Seq.{take-add}
 use Rattle.nb_order.specs.declared.body_file.KickedBody.{KickedBody}
 use Rattle.nb_force.specs.Groups.{range_of}
 use Rattle.nb_force.specs.Kicks.{indexed_from}
-use Rattle.nb_force.specs.Receiver.{Given}
+use Rattle.nb_force.specs.Receiver.{HandedBody}
 
 module _ {X : Type 0} where
   drop_drop : (n m : ℕ) (xs : List X) → drop m (drop n xs) ≡ drop (n + m) xs
@@ -83,7 +83,7 @@ unfolding indexed_from
 indexed_append from [] ys = let same : from ≡ from + 0 = omega arith in ap (λ n. indexed_from n ys) same
 indexed_append from (x ∷ xs) ys =
     let next : suc from + length xs ≡ from + length (x ∷ xs) = omega arith in
-    let first : Given = record { index = from; kicked = x } in
+    let first : HandedBody = record { index = from; kicked = x } in
     ap (λ l. first ∷ l) (indexed_append (suc from) xs ys ∙ ap (λ n. indexed_from (suc from) xs ++ indexed_from n ys) next)
 
 pub indexed_one : (from : ℕ) (x : KickedBody) → indexed_from from (x ∷ []) ≡ record { index = from; kicked = x } ∷ []

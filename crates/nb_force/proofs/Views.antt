@@ -6,7 +6,7 @@ use Rattle.std.proofs.Math.Path.{fun_ext}
 use Rattle.nb_host.specs.Meaning.{HostModel}
 use Rattle.nb_model.specs.declared.body.Body.{Body}
 use Rattle.nb_model.specs.declared.params.Params.{Params}
-use Rattle.nb_model.specs.Leapfrog.{in_box}
+use Rattle.nb_model.specs.Leapfrog.{unescaped}
 use Rattle.nb_cache.specs.View.{CacheValue, seen}
 use Rattle.nb_cache.specs.Writes.{Writes}
 use Rattle.nb_cache.proofs.Callers.{no_file, other_file}
@@ -15,7 +15,7 @@ use Rattle.nb_record.specs.Cells.{tree_cells}
 use Rattle.nb_record.specs.Order.{by_key, sorted_by, HoldsBodies}
 use Rattle.nb_record.specs.Table.{IsCellTable}
 use Rattle.nb_record.specs.Tree.{IsTreeOf}
-use Rattle.nb_record.proofs.Callers.{front, in_box_sorted, length-sorted_by}
+use Rattle.nb_record.proofs.Callers.{front, unescaped_sorted, length-sorted_by}
 use Rattle.nb_walk.specs.Items.{in_order}
 use Rattle.nb_force.specs.Kicks.{kicked_bodies, kicked_of}
 use Rattle.nb_force.proofs.Lists.{at_kept, at_taken}
@@ -66,20 +66,20 @@ module _ {H : Type 0} {m : HostModel H} {old_cache new_cache : CacheValue} {old 
 
 -- ---- the bodies of a tree
 
-pub length-in_order : (bodies : List Body) → length (in_order bodies) ≡ length (in_box bodies)
-length-in_order bodies = length-sorted_by by_key (in_box bodies)
+pub length-in_order : (bodies : List Body) → length (in_order bodies) ≡ length (unescaped bodies)
+length-in_order bodies = length-sorted_by by_key (unescaped bodies)
 
-pub length-kicked : (params : Params) (bodies : List Body) → length (kicked_bodies params bodies) ≡ length (in_box bodies)
+pub length-kicked : (params : Params) (bodies : List Body) → length (kicked_bodies params bodies) ≡ length (unescaped bodies)
 length-kicked params bodies = length-map (in_order bodies) (kicked_of params bodies) ∙ length-in_order bodies
 
 -- the bodies in the box stand at the front
-pub at_front : (bodies : List Body) (i : ℕ) (b : Body) → i < length (in_box bodies) → slice_get (sorted_by by_key bodies) i ≡ Some b → slice_get (in_order bodies) i ≡ Some b
+pub at_front : (bodies : List Body) (i : ℕ) (b : Body) → i < length (unescaped bodies) → slice_get (sorted_by by_key bodies) i ≡ Some b → slice_get (in_order bodies) i ≡ Some b
 at_front bodies i b below is =
-    ap (λ l. slice_get l i) (sym (front bodies)) ∙ at_taken (length (in_box bodies)) (sorted_by by_key bodies) i below ∙ is
+    ap (λ l. slice_get l i) (sym (front bodies)) ∙ at_taken (length (unescaped bodies)) (sorted_by by_key bodies) i below ∙ is
 
 pub in_order_present : (bodies : List Body) (i : ℕ) (b : Body) → slice_get (in_order bodies) i ≡ Some b → b.out ≡ false
 in_order_present bodies i b is =
-    let kept = at_kept (λ (x : Body). not x.out) (sorted_by by_key bodies) i b (ap (λ l. slice_get l i) (in_box_sorted bodies) ∙ is) in
+    let kept = at_kept (λ (x : Body). not x.out) (sorted_by by_key bodies) i b (ap (λ l. slice_get l i) (unescaped_sorted bodies) ∙ is) in
     stayed b.out kept where
       stayed : (out : Bool) → not out ≡ true → out ≡ false
       stayed true stays = absurd (cc)

@@ -10,7 +10,7 @@ use Rattle.nb_model.specs.declared.body.At.{At}
 use Rattle.nb_model.specs.declared.body.Body.{Body}
 use Rattle.nb_model.specs.declared.params.Params.{Params}
 use Rattle.nb_model.specs.Gravity.{force_on}
-use Rattle.nb_model.specs.Leapfrog.{in_box, half_kick}
+use Rattle.nb_model.specs.Leapfrog.{unescaped, half_kick}
 use Rattle.nb_model.specs.Limits.{kick_limit, gm_limit}
 use Rattle.nb_model.specs.Valid.{IsBelow}
 use Rattle.nb_model.specs.Vector.{zero_vector}
@@ -21,19 +21,12 @@ use Rattle.nb_record.specs.Tree.{IsTreeOf}
 use Rattle.nb_walk.specs.declared.item.Item.{Item}
 use Rattle.nb_walk.specs.declared.item.Item.TheVariants as item
 use Rattle.nb_walk.specs.Items.{in_order, page_for}
-use Rattle.nb_walk.specs.Pool.{PooledWalk, with_walk, targets, sums, AreInRange, AreWithin, BlamesOne, HaveForces}
+use Rattle.nb_walk.specs.Pool.{PooledWalk, with_walk, targets, sums, AreSumsInRange, AreWithin, BlamesOne, HaveForces}
 use Rattle.nb_walk.specs.Walk.{WalkValue}
-use Rattle.nb_walk.proofs.Callers.{all_begun, begun_range, begun_within, none_on, none_in_range, none_within, targets_begun}
+use Rattle.nb_walk.proofs.Callers.{all_begun, begun_range, begun_within, targets_begun}
 use Rattle.nb_force.specs.Groups.{AreBegun, GoTo, AreKicksFrom}
 use Rattle.nb_force.proofs.Lists.{at_push, at_mapped}
 use Rattle.nb_force.proofs.Views.{tree_before, reads_keep, in_order_present}
-
-pub begun_none : AreBegun []
-begun_none = record {
-  range = λ params. none_in_range params;
-  within = λ most. none_within most;
-  on = λ params bodies tree files of_tree. none_on params bodies tree (files tree.cells);
-}
 
 pub begun_more : (p : At) (walks : List PooledWalk) → AreBegun walks → AreBegun (with_walk p walks)
 begun_more p walks begun = record {
@@ -41,9 +34,6 @@ begun_more p walks begun = record {
   within = λ most. begun_within most p walks (begun.within most);
   on = λ params bodies tree files of_tree. all_begun params bodies tree files p walks of_tree (begun.on params bodies tree files of_tree);
 }
-
-pub go_to_none : (bodies : List Body) (from : ℕ) → GoTo bodies from []
-go_to_none bodies from i target is body at = absurd (none-some target is)
 
 pub go_to_more : (bodies : List Body) (from n : ℕ) (walks : List PooledWalk) (b : Body) → GoTo bodies from walks → from + length walks ≡ n
     → slice_get (in_order bodies) n ≡ Some b → GoTo bodies from (with_walk b.at walks)
@@ -64,7 +54,7 @@ within_limit axis most taken less small = omega arith
 product_small : (grav taken mass : ℕ) → taken ≤ mass → grav * mass < gm_limit → grav * taken < kick_limit
 product_small grav taken mass less small = grind arith
 
-pub sums_below : (params : Params) (tree : Tree) (walks : List PooledWalk) → params.grav * tree.mass < gm_limit → AreInRange params walks
+pub sums_below : (params : Params) (tree : Tree) (walks : List PooledWalk) → params.grav * tree.mass < gm_limit → AreSumsInRange params walks
     → AreWithin tree.mass walks → All (IsBelow kick_limit) (sums walks)
 sums_below params tree walks small range within =
     All-map (IsBelow kick_limit) (λ (w : PooledWalk). w.walk.sum) walks
@@ -74,15 +64,15 @@ sums_below params tree walks small range within =
     record { x = within_limit _ _ 0 is.x most; y = within_limit _ _ 0 is.y most; z = within_limit _ _ 0 is.z most })
 
 -- over a tree the sums are half kicks
-kick_present : (params : Params) (bodies : List Body) (b : Body) → b.out ≡ false → force_on params b.at 0 (in_box bodies) ≡ half_kick params bodies b
-kick_present params bodies b is = ap (λ out. cond out zero_vector (force_on params b.at 0 (in_box bodies))) (sym is)
+kick_present : (params : Params) (bodies : List Body) (b : Body) → b.out ≡ false → force_on params b.at 0 (unescaped bodies) ≡ half_kick params bodies b
+kick_present params bodies b is = ap (λ out. cond out zero_vector (force_on params b.at 0 (unescaped bodies))) (sym is)
 
 pub sums_are_kicks : {H : Type 0} (m : HostModel H) (params : Params) (tree : Tree) (cache : CacheValue) (host : H) (from : ℕ) (walks : List PooledWalk)
     → (IsTrue m.tells → (bodies : List Body) → IsTreeOf tree (seen m cache host) params bodies → HaveForces params bodies walks)
     → (IsTrue m.tells → (bodies : List Body) → IsTreeOf tree (seen m cache host) params bodies → GoTo bodies from walks)
     → AreKicksFrom m params tree cache host from walks
 sums_are_kicks m params tree cache host from walks forces go_to i kick is tells bodies of_tree b at =
-    let force = λ (p : At). force_on params p 0 (in_box bodies) in
+    let force = λ (p : At). force_on params p 0 (unescaped bodies) in
     let target = at_mapped force (targets walks) i kick (ap (λ l. slice_get l i) (sym (forces tells bodies of_tree)) ∙ is) in
     let same : target.0 ≡ b.at = go_to tells bodies of_tree i target.0 target.1 b at in
     target.2 ∙ ap force same ∙ kick_present params bodies b (in_order_present bodies (from + i) b at)

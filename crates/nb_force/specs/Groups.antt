@@ -11,23 +11,23 @@ use Rattle.nb_cache.specs.View.{CacheValue, seen}
 use Rattle.nb_record.specs.declared.tree.Tree.{Tree}
 use Rattle.nb_record.specs.Tree.{IsTreeOf}
 use Rattle.nb_walk.specs.Items.{in_order}
-use Rattle.nb_walk.specs.Pool.{PooledWalk, targets, sums, AreInRange, AreWithin, AreOn}
+use Rattle.nb_walk.specs.Pool.{PooledWalk, targets, sums, AreSumsInRange, AreWithin, AreOn}
 use Rattle.nb_order.specs.declared.body_file.KickedBody.{KickedBody}
-use Rattle.nb_force.specs.Receiver.{Given, ReceiverModel}
+use Rattle.nb_force.specs.Receiver.{HandedBody, ReceiverModel}
 use Rattle.nb_force.specs.Kicks.{kicked_bodies, indexed_from}
 
 -- those of a list from an index on up to another
 abbrev pub range_of : {X : Type 0} → ℕ → ℕ → List X → List X
 range_of from end xs = take (end - from) (drop from xs)
 
--- the bodies in the box from an index on up to another, in Morton order, each with its half kick
+-- the unescaped bodies from an index on up to another, in Morton order, each with its half kick
 abbrev pub kicked_range : Params → List Body → ℕ → ℕ → List KickedBody
 kicked_range params bodies from end = range_of from end (kicked_bodies params bodies)
 
 -- a receiver takes these, and no others
 pub record TakesRange {H R : Type 0} (m : HostModel H) (model : ReceiverModel R) (params : Params) (tree : Tree) (from end : ℕ) (old_cache : CacheValue) (old : H) (old_self : R) (new_cache : CacheValue) (new : H) (new_self : R) : Type 0 where
   pub taken : IsTrue m.tells → (bodies : List Body) → IsTreeOf tree (seen m old_cache old) params bodies
-      → (list : List Given) → model.has_taken old_self (seen m old_cache old) list
+      → (list : List HandedBody) → model.has_taken old_self (seen m old_cache old) list
       → model.has_taken new_self (seen m new_cache new) (list ++ indexed_from from (kicked_range params bodies from end))
   pub fits : IsTrue m.tells → (bodies : List Body) → IsTreeOf tree (seen m old_cache old) params bodies
       → (more : List KickedBody) → model.fits old_self (seen m old_cache old) (kicked_range params bodies from end ++ more)
@@ -48,7 +48,7 @@ pub record IsBrokenTree {H : Type 0} (m : HostModel H) (params : Params) (tree :
 
 -- walks as a pool begins them, over whichever tree
 pub record AreBegun (walks : List PooledWalk) : Type 0 where
-  pub range : (params : Params) → AreInRange params walks
+  pub range : (params : Params) → AreSumsInRange params walks
   pub within : (most : ℕ) → AreWithin most walks
   pub on : (params : Params) (bodies : List Body) (tree : Tree) (files : ℕ → List ℕ) → IsTreeOf tree files params bodies
       → AreOn params bodies tree (files tree.cells) walks

@@ -8,14 +8,14 @@ use Rattle.nb_force.specs.declared.force_error.ForceError.{ForceError}
 use Rattle.nb_force.specs.declared.force_error.ForceError.TheVariants.{Damaged}
 
 -- what a receiver takes at a time: a body with its half kick, and its index in Morton order, counted from 0
-pub record Given : Type 0 where
+pub record HandedBody : Type 0 where
   pub index : ℕ
   pub kicked : KickedBody
 
 -- The meaning of a type of receivers, over the files as a cache shows them.
 pub record ReceiverModel (R : Type 0) : Type 1 where
   -- it has taken these, in this order
-  pub has_taken : R → (ℕ → List ℕ) → List Given → Type 0
+  pub has_taken : R → (ℕ → List ℕ) → List HandedBody → Type 0
   -- the one file of the cache that it writes
   pub file : R → ℕ
   -- what it is set to, which stays as it takes bodies
@@ -25,9 +25,9 @@ pub record ReceiverModel (R : Type 0) : Type 1 where
   pub fits : R → (ℕ → List ℕ) → List KickedBody → Type 0
 
 -- Over files that are told, a receiver takes one more behind what it had taken.
-abbrev pub Takes : {H R : Type 0} → HostModel H → ReceiverModel R → Given → CacheValue → H → R → CacheValue → H → R → Type 0
+abbrev pub Takes : {H R : Type 0} → HostModel H → ReceiverModel R → HandedBody → CacheValue → H → R → CacheValue → H → R → Type 0
 Takes m model given old_cache old old_self new_cache new new_self =
-    IsTrue m.tells → (list : List Given) → model.has_taken old_self (seen m old_cache old) list
+    IsTrue m.tells → (list : List HandedBody) → model.has_taken old_self (seen m old_cache old) list
     → model.has_taken new_self (seen m new_cache new) (list ++ given ∷ [])
 
 -- Over files that are told, a receiver that can take this body and more takes it, and can take the others.

@@ -2,19 +2,19 @@
 use Rattle.std.specs.Prelude.{◌≡◌, ℕ, Bool, false, IsTrue, List, Option, All, Contains}
 use Rattle.nb_host.specs.declared.page_name.PageName.{PageName}
 use Rattle.nb_model.specs.declared.params.Params.{Params}
-use Rattle.nb_cache.specs.View.{CacheValue, names_of, shown}
+use Rattle.nb_cache.specs.View.{CacheValue, names_of, resident_bytes}
 use Rattle.nb_record.specs.declared.tree.Tree.{Tree}
-use Rattle.nb_walk.specs.Pool.{PoolValue, targets, AreInRange, AreWithin, AreFinished, IsSettled, IsWanted, SomeWaits}
+use Rattle.nb_walk.specs.Pool.{PoolValue, targets, AreSumsInRange, AreWithin, AreFinished, IsSettled, IsWanted, SomeWaits}
 
 -- what a cache shows of a file
 abbrev pub shown_of : CacheValue → ℕ → ℕ → Option (List ℕ)
-shown_of cache file page = shown cache.held (record { file = file; page = page })
+shown_of cache file page = resident_bytes cache.held (record { file = file; page = page })
 
 -- a pool has the walks that it had, which went on in range
 pub record KeepsWalks (params : Params) (tree : Tree) (old new : PoolValue) : Type 0 where
   pub room : new.room ≡ old.room
   pub targets : targets new.walks ≡ targets old.walks
-  pub range : AreInRange params new.walks
+  pub range : AreSumsInRange params new.walks
   pub within : AreWithin tree.mass old.walks → AreWithin tree.mass new.walks
 
 -- each walk waits for a page that isn't resident, or is finished

@@ -25,7 +25,7 @@ use nb_order::{body_at, page_name};
 use nb_record::Tree;
 use nb_walk::Pool;
 
-/// Hands the receiver each body of the tree in the box, once, in Morton order, by its index from 0, with its
+/// Hands the receiver each unescaped body of the tree, once, in Morton order, by its index from 0, with its
 /// half kick, in box units a tick. As many walks as the pool has room for wait for their pages together. The
 /// receiver's file isn't one of the tree's. After a refusal the receiver has taken some of them.
 pub fn kicks<H: Host, R: Receiver<H>>(

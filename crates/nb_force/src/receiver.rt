@@ -18,7 +18,7 @@ pub trait Receiver<H: Host> {
     // What it has taken, the file that it writes, what it is set to, and what it can take.
     ghost model: { ReceiverModel Self };
 
-    /// Takes a body in the box, by its index in Morton order, counted from 0, with its half kick, in box units
+    /// Takes an unescaped body, by its index in Morton order, counted from 0, with its half kick, in box units
     /// a tick. Damaged names a page of the file that it writes.
     fn take(
         &mut self,

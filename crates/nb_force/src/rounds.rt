@@ -7,11 +7,11 @@ ghost use Rattle.nb_host.specs.declared.page_name.PageName.{PageName as PageName
 ghost use Rattle.nb_model.specs.declared.body.Body.{Body as Bodies};
 ghost use Rattle.nb_model.specs.Limits.{kick_limit};
 ghost use Rattle.nb_model.specs.Valid.{IsBelow};
-ghost use Rattle.nb_cache.specs.InStep.{IsCachedFile, IsCacheable, IsInStep, Fits};
+ghost use Rattle.nb_cache.specs.InStep.{IsCachedFile, IsCacheable, IsInStep, IsCoherent};
 ghost use Rattle.nb_cache.specs.View.{names_of, seen, view_of, IsWhole};
 ghost use Rattle.nb_cache.specs.Writes.{RanCached};
 ghost use Rattle.nb_record.specs.Tree.{IsTreeOf};
-ghost use Rattle.nb_walk.specs.Pool.{targets, sums, pool_bound, AreInRange, AreOn, HaveForces, IsWanted};
+ghost use Rattle.nb_walk.specs.Pool.{targets, sums, pool_bound, AreSumsInRange, AreOn, HaveForces, IsWanted};
 ghost use Rattle.nb_walk.specs.Shown.{IsWalkable};
 ghost use Rattle.nb_force.specs.Groups.{AreBegun, IsBrokenTree};
 ghost use Rattle.nb_force.specs.Rounds.{KeepsWalks, HasPaused, HasOneOf};
@@ -58,13 +58,13 @@ pub(crate) fn finish<H: Host>(
 /// Has each walk go on over the resident pages, and answers whether all are finished.
 fn advance(cache: &Cache, pool: &mut Pool, params: &Params, tree: &Tree) -> Result<bool, ForceError>
     requires tree { IsWalkable params.now tree.now }
-    requires range { AreInRange params.now pool.old.walks }
+    requires range { AreSumsInRange params.now pool.old.walks }
     ensures kept { KeepsWalks params.now tree.now pool.old pool.new }
     ensures paused { IfOk result (HasPaused cache.now tree.now pool.new) }
     ensures lower { (wants : List PageNames) (name : PageNames) → IsWanted tree.now pool.old.walks wants
         → Contains wants name → Contains (names_of cache.now) name
         → OnOk result (pool_bound tree.now pool.new.walks < pool_bound tree.now pool.old.walks) }
-    ensures tree { (image : Image) (bodies : List Bodies) → Fits cache.now image
+    ensures tree { (image : Image) (bodies : List Bodies) → IsCoherent cache.now image
         → IsTreeOf tree.now (view_of cache.now image) params.now bodies
         → AreOn params.now bodies tree.now (view_of cache.now image tree.now.cells) pool.old.walks
         → IsOk result

@@ -1,7 +1,7 @@
 //! The resident pages of a cache, as walks see them.
 
 ghost use Rattle.std.specs.Prelude.{◌≡◌, option_map};
-ghost use Rattle.nb_cache.specs.View.{shown};
+ghost use Rattle.nb_cache.specs.View.{resident_bytes};
 
 use nb_cache::Cache;
 use nb_host::PageName;
@@ -19,9 +19,9 @@ pub struct Window<'a> {
 }
 
 impl Lender for Window<'_> {
-    ghost cells = { λ w page. shown w.cache.now.held (record { file = w.cells; page = page }) };
+    ghost cells = { λ w page. resident_bytes w.cache.now.held (record { file = w.cells; page = page }) };
 
-    ghost bodies = { λ w page. shown w.cache.now.held (record { file = w.bodies; page = page }) };
+    ghost bodies = { λ w page. resident_bytes w.cache.now.held (record { file = w.bodies; page = page }) };
 
     fn cell_page(&self, page: u64) -> Option<Result<CellPage<'_>, PageError>> {
         let name = PageName {

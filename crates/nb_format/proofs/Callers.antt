@@ -3,13 +3,13 @@ use Rattle.std.proofs.Common.{◌≡◌, ℕ, zero, suc, ◌+◌, inl, inr, Cont
 use Rattle.std.proofs.lemmas.List.{append-nil, length_push}
 use Rattle.std.proofs.lemmas.List.Elements.{Contains-append_right}
 use Rattle.nb_host.specs.Crashes.{AgreesOutside, EverySince}
-use Rattle.nb_host.specs.Image.{Image, FileBecomes, Spares}
-use Rattle.nb_host.specs.Meaning.{HostModel, IsDurableFile, IsLeft, Leads, Over}
+use Rattle.nb_host.specs.Image.{Image, FileBecomes, KeepsFile}
+use Rattle.nb_host.specs.Meaning.{HostModel, IsDurableFile, FileIs, Leads, Over}
 use Rattle.nb_host.proofs.Callers.{goes_on, leads_more, every_since, left_stays, others_spare}
 use Rattle.nb_model.specs.declared.body.Body.{Body}
 use Rattle.nb_format.specs.declared.snap_writer.Filling.{Filling}
 use Rattle.nb_format.specs.Snapshot.{IsSnapshot, IsUnfinished}
-use Rattle.nb_format.specs.Writer.{Plan, plan_of, IsEmptyFilling, HasFilled, HasShutGate, IsBegun, StaysShut, StaysUnfinished, Closes}
+use Rattle.nb_format.specs.Writer.{SnapshotPlan, plan_of, IsEmptyFilling, HasFilled, HasShutGate, IsBegun, StaysShut, StaysUnfinished, Closes}
 use Rattle.nb_format.specs.Images.{IsUnfinishedNow, IsShutNow, IsFilledNow, IsBeingWritten, ChangesWith, AddsBody, AddsEach, IsWritten}
 use Rattle.nb_format.proofs.Closing.{shut_is_unfinished}
 use Rattle.nb_format.proofs.Reading.{last_of-push}
@@ -57,7 +57,7 @@ changes_then {others = others} first second joined =
 -- Stretches.
 
 -- a call of the writer on a file that is being written
-call_leads : {H : Type 0} {m : HostModel H} {others : List ℕ} {plan : Plan} {filling : Filling} {bodies : List Body}
+call_leads : {H : Type 0} {m : HostModel H} {others : List ℕ} {plan : SnapshotPlan} {filling : Filling} {bodies : List Body}
     {P Q : List ℕ → List ℕ → Type 0} {start middle now : H}
     → IsBeingWritten m others plan filling bodies start middle
     → Leads m (FileBecomes (plan_of filling).file P) middle now
@@ -65,12 +65,12 @@ call_leads : {H : Type 0} {m : HostModel H} {others : List ℕ} {plan : Plan} {f
     → ((old between new : List ℕ) → IsTrue m.tells → HasShutGate between → P between new → Q old new)
     → Leads m (ChangesWith others plan.file Q) start now
 call_leads {m = m} {plan = plan} {filling = filling} {bodies = bodies} {P = P} {middle = middle} {now = now} being call alone both =
-    let here = subst (λ (p : Plan). Leads m (FileBecomes p.file P) middle now) being.planned call in
-    let gate = subst (λ (p : Plan). IsShutNow m p.file middle) being.planned (filled_is_shut_now being.filled) in
+    let here = subst (λ (p : SnapshotPlan). Leads m (FileBecomes p.file P) middle now) being.planned call in
+    let gate = subst (λ (p : SnapshotPlan). IsShutNow m p.file middle) being.planned (filled_is_shut_now being.filled) in
     record {
       contents = λ tells.
           let shut = filled_is_shut filling ((m.contents middle).file (plan_of filling).file) bodies (being.filled.left.reads tells) in
-          let now_shut = subst (λ (p : Plan). HasShutGate ((m.contents middle).file p.file)) being.planned shut in
+          let now_shut = subst (λ (p : SnapshotPlan). HasShutGate ((m.contents middle).file p.file)) being.planned shut in
           changes_then (being.since.contents tells) (here.contents tells) (λ one two. both _ _ _ tells now_shut two);
       images = goes_on being.since.images here.images (λ from image step. changes_alone alone step)
           (λ from between image honest one is two.
@@ -101,7 +101,7 @@ kept_leads {m = m} {others = others} {number = number} {P = P} {start = start} {
   }
 
 -- What `begin` says begins it.
-pub being_begun : {H : Type 0} {m : HostModel H} (others : List ℕ) {plan : Plan} {filling : Filling} {old new : H}
+pub being_begun : {H : Type 0} {m : HostModel H} (others : List ℕ) {plan : SnapshotPlan} {filling : Filling} {old new : H}
     → IsEmptyFilling plan filling → Over m (FileBecomes plan.file (IsBegun plan)) old new → IsShutNow m plan.file new
     → Leads m (FileBecomes plan.file StaysUnfinished) old new → IsBeingWritten m others plan filling [] old new
 being_begun {m = m} others {plan = plan} {filling = filling} {old = old} {new = new} empty begun shut leads =
@@ -112,7 +112,7 @@ being_begun {m = m} others {plan = plan} {filling = filling} {old = old} {new = 
         added = empty.added;
         last = empty.last;
         left = subst
-            (λ (p : Plan). IsLeft m p.file (λ reads. HasFilled filling reads []) (λ reads image. HasShutGate image) new)
+            (λ (p : SnapshotPlan). FileIs m p.file (λ reads. HasFilled filling reads []) (λ reads image. HasShutGate image) new)
             (sym empty.plan)
             (record {
               reads = λ tells. begun_filled plan filling ((m.contents new).file plan.file) empty (begun tells).file;
@@ -122,14 +122,14 @@ being_begun {m = m} others {plan = plan} {filling = filling} {old = old} {new = 
     }
 
 -- A body is added, or not: the file stays unfinished.
-pub add_leads : {H : Type 0} {m : HostModel H} {others : List ℕ} {plan : Plan} {filling : Filling} {bodies : List Body} {start old new : H}
+pub add_leads : {H : Type 0} {m : HostModel H} {others : List ℕ} {plan : SnapshotPlan} {filling : Filling} {bodies : List Body} {start old new : H}
     → IsBeingWritten m others plan filling bodies start old → Leads m (FileBecomes (plan_of filling).file StaysShut) old new
     → Leads m (ChangesWith others plan.file StaysUnfinished) start new
 add_leads being call =
     call_leads being call (λ old new stays. stays) (λ old between new _ shut step _. shut_is_unfinished new (step shut))
 
 -- One `add` goes on with it.
-pub being_added : {H : Type 0} {m : HostModel H} {others : List ℕ} {plan : Plan} {filling next : Filling} {bodies : List Body} (body : Body)
+pub being_added : {H : Type 0} {m : HostModel H} {others : List ℕ} {plan : SnapshotPlan} {filling next : Filling} {bodies : List Body} (body : Body)
     {start old new : H} → IsBeingWritten m others plan filling bodies start old → AddsBody m body filling next old new
     → IsBeingWritten m others plan next (bodies ++ body ∷ []) start new
 being_added {m = m} {filling = filling} {next = next} {bodies = bodies} body {new = new} being adds = record {
@@ -139,7 +139,7 @@ being_added {m = m} {filling = filling} {next = next} {bodies = bodies} body {ne
     added = adds.added.added ∙ ap (λ (n : ℕ). n + 1) being.filled.added ∙ sym (length_push bodies body);
     last = adds.added.last ∙ sym (last_of-push bodies body);
     left = subst
-        (λ (p : Plan). IsLeft m p.file (λ reads. HasFilled next reads (bodies ++ body ∷ [])) (λ reads image. HasShutGate image) new)
+        (λ (p : SnapshotPlan). FileIs m p.file (λ reads. HasFilled next reads (bodies ++ body ∷ [])) (λ reads image. HasShutGate image) new)
         (sym adds.added.plan)
         (record {
           reads = λ tells. adds.filled bodies tells (being.filled.left.reads tells);
@@ -151,7 +151,7 @@ being_added {m = m} {filling = filling} {next = next} {bodies = bodies} body {ne
 }
 
 -- An `add` for each body of a list goes on with it.
-pub being_each : {H : Type 0} {m : HostModel H} {others : List ℕ} {plan : Plan} (filling last : Filling) (bodies more : List Body)
+pub being_each : {H : Type 0} {m : HostModel H} {others : List ℕ} {plan : SnapshotPlan} (filling last : Filling) (bodies more : List Body)
     {start old new : H} → IsBeingWritten m others plan filling bodies start old → AddsEach m more filling last old new
     → IsBeingWritten m others plan last (bodies ++ more) start new
 being_each {H = H} {m = m} {others = others} {plan = plan} filling last bodies [] {start = start} {old = old} {new = new} being each =
@@ -163,7 +163,7 @@ being_each {H = H} {m = m} {others = others} {plan = plan} filling last bodies (
     (being_each each.0 last (bodies ++ body ∷ []) more (being_added body being each.2) each.3)
 
 -- After `close` the file is the snapshot or unfinished.
-pub close_leads : {H : Type 0} {m : HostModel H} {others : List ℕ} {plan : Plan} {filling : Filling} {bodies : List Body} {start old new : H}
+pub close_leads : {H : Type 0} {m : HostModel H} {others : List ℕ} {plan : SnapshotPlan} {filling : Filling} {bodies : List Body} {start old new : H}
     → IsBeingWritten m others plan filling bodies start old
     → Leads m (FileBecomes (plan_of filling).file (Closes filling ((m.contents old).file (plan_of filling).file))) old new
     → Leads m (ChangesWith others plan.file (IsWritten bodies plan.time)) start new
@@ -171,7 +171,7 @@ close_leads {m = m} {plan = plan} {filling = filling} {bodies = bodies} being ca
     call_leads being call (λ old new stays before. inr (stays before))
     (λ old between new tells shut step _.
     elim (step bodies (being.filled.left.reads tells) shut) [
-      | inl is ↦ inl (subst (λ (p : Plan). IsSnapshot new bodies p.time) being.planned is)
+      | inl is ↦ inl (subst (λ (p : SnapshotPlan). IsSnapshot new bodies p.time) being.planned is)
       | inr still ↦ inr still
     ])
 
@@ -190,18 +190,18 @@ changes_becomes {number = number} step = record {
 -- What stays through calls that spare the file.
 
 pub filled_kept : {H : Type 0} {m : HostModel H} {filling : Filling} {bodies : List Body} {old new : H}
-    → Leads m (Spares (plan_of filling).file) old new → IsFilledNow m filling bodies old → IsFilledNow m filling bodies new
+    → Leads m (KeepsFile (plan_of filling).file) old new → IsFilledNow m filling bodies old → IsFilledNow m filling bodies new
 filled_kept {m = m} leads filled =
     record { added = filled.added; last = filled.last; left = left_stays m leads filled.left }
 
 -- and through calls on the other files
-pub being_kept : {H : Type 0} {m : HostModel H} {others : List ℕ} {plan : Plan} {filling : Filling} {bodies : List Body} {start old new : H}
+pub being_kept : {H : Type 0} {m : HostModel H} {others : List ℕ} {plan : SnapshotPlan} {filling : Filling} {bodies : List Body} {start old new : H}
     → (Contains others plan.file → ⊥) → Leads m (AgreesOutside others) old new
     → IsBeingWritten m others plan filling bodies start old → IsBeingWritten m others plan filling bodies start new
 being_kept {others = others} spared leads being = record {
   planned = being.planned;
   since = kept_leads spared being.since leads;
-  filled = filled_kept (others_spare (subst (λ (p : Plan). Contains others p.file → ⊥) (sym being.planned) spared) leads) being.filled;
+  filled = filled_kept (others_spare (subst (λ (p : SnapshotPlan). Contains others p.file → ⊥) (sym being.planned) spared) leads) being.filled;
 }
 
 -- Every image since.
@@ -211,7 +211,7 @@ pub written_every : {H : Type 0} {m : HostModel H} {others : List ℕ} {file : �
     → ((old new : List ℕ) → IsUnfinished old → P old new → Q new) → IsUnfinishedNow m file start
     → Leads m (ChangesWith others file P) start now → EverySince m.crashes (λ image. Q (image.file file)) start now
 written_every {m = m} {file = file} Q at_start after unfinished leads =
-    every_since (λ image. Q (image.file file)) m.counts_only_now leads.images
+    every_since (λ image. Q (image.file file)) m.includes_only_now leads.images
     (λ image honest is. at_start (image.file file) (unfinished.images image honest is))
     (λ from image honest is step. after (from.file file) (image.file file) (unfinished.images from honest is) step.file)
 

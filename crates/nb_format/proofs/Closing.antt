@@ -1,26 +1,17 @@
 -- What the calls of a snapshot writer make of the file in every image.
 use Rattle.std.proofs.Common.{◌≡◌, ℕ, ◌^◌, ◌<◌, ◌≤◌, inl, inr, IsTrue, List, [], ◌∷◌, length, drop, slice_index, sym, ap, subst, ◌∙◌, arith, length-take}
 use Rattle.std.proofs.lemmas.Bool.{cases_eq}
-use Rattle.nb_host.specs.Image.{Image, FileBecomes, IsTorn, IsPartlyCut, IsCut}
-use Rattle.nb_host.specs.Meaning.{HostModel, Leads, Over, IsDurable}
+use Rattle.nb_host.specs.Image.{Image, FileBecomes, IsTorn}
+use Rattle.nb_host.specs.Meaning.{HostModel, Leads, IsDurable}
 use Rattle.nb_host.specs.Crashes.{Stays}
-use Rattle.nb_host.proofs.Callers.{becomes_more, becomes_same, leads_synced, leads_more, stays_contents}
+use Rattle.nb_host.proofs.Callers.{becomes_same, leads_synced, leads_more, stays_contents}
 use Rattle.nb_format.specs.declared.snap_writer.Filling.{Filling}
 use Rattle.nb_format.specs.Images.{IsShutNow}
-use Rattle.nb_format.specs.Snapshot.{gate, IsSnapshot, IsUnfinished}
+use Rattle.nb_format.specs.Snapshot.{snapshot_gate, IsSnapshot, IsUnfinished}
 use Rattle.nb_format.specs.Writer.{plan_of, added_count, HasFilled, HasShutGate, StaysShut, StaysUnfinished, Closes}
 use Rattle.nb_format.proofs.Writing.{front_torn, opened_is}
 
 -- One file.
-
--- a cut behind the gate leaves an unfinished file unfinished
-pub cut_unfinished : (old new : List ℕ) → IsPartlyCut 1 old new → StaysUnfinished old new
-cut_unfinished old new cut = λ before long open'.
-    before (omega (arith, cut.no_longer)) (sym (cut.below 0 (omega arith) (omega arith)) ∙ open')
-
--- a file that was cut behind its gate is unfinished, whatever the gate becomes
-pub gate_alone : (old new : List ℕ) → length old ≤ 1 → IsTorn 0 1 old new → IsUnfinished new
-gate_alone old new short torn = λ long. absurd (omega (arith, torn.no_longer))
 
 -- what is written behind a shut gate leaves it
 pub behind_shut : (at len : ℕ) (old new : List ℕ) → 1 ≤ at → IsTorn at len old new → StaysShut old new
@@ -44,7 +35,7 @@ pub gate_closes : (filling : Filling) (read old new : List ℕ) → added_count 
 gate_closes filling read old new full fits same torn = λ bodies has before.
     let is = front_torn old new before.there torn in
     let filled = subst (λ (w : List ℕ). HasFilled filling w bodies) (sym same) has in
-    elim (cases_eq (slice_index new 0) gate) [
+    elim (cases_eq (slice_index new 0) snapshot_gate) [
       | inl open' ↦
           inl (subst (λ (w : List ℕ). IsSnapshot w bodies (plan_of filling).time)
           (sym (is ∙ ap (λ (b : ℕ). b ∷ drop 1 old) open')) (opened_is filling old bodies filled full fits))
@@ -52,23 +43,6 @@ gate_closes filling read old new full fits same torn = λ bodies has before.
     ]
 
 -- Stretches of calls.
-
--- the gate of a file that was cut behind it, shut
-pub shut_leads : {H : Type 0} {m : HostModel H} {file : ℕ} {old middle new : H}
-    → Leads m (FileBecomes file (IsPartlyCut 1)) old middle → Over m (FileBecomes file (IsCut 1)) old middle
-    → IsDurable m middle → Leads m (FileBecomes file (IsTorn 0 1)) middle new
-    → Leads m (FileBecomes file StaysUnfinished) old new
-shut_leads {m = m} {file = file} {old = old} {middle = middle} cut short durable gate' =
-    leads_synced cut durable gate' (λ start image step. becomes_more step cut_unfinished)
-    (λ start image tells one two.
-    let is = (short tells).file in
-    let whole : length ((m.contents middle).file file) ≤ 1 =
-    omega (arith, ap length is, length-take 1 ((m.contents old).file file)) in
-    record {
-      file = λ _. gate_alone ((m.contents middle).file file) (image.file file) whole two.file;
-      others = λ other spared. two.others other spared ∙ one.others other spared;
-      said = two.said ∙ one.said;
-    })
 
 -- the header behind a shut gate
 pub header_leads : {H : Type 0} {m : HostModel H} {file len : ℕ} {old middle new : H}

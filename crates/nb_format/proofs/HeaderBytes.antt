@@ -4,12 +4,12 @@ use Rattle.std.specs.Prelude.{codes}
 use Rattle.std.specs.Int.{w64, to_le_bytes}
 use Rattle.std.proofs.lemmas.List.{take_all, take_more}
 use Rattle.std.proofs.Math.Seq.{take-add}
-use Rattle.nb_format.specs.Snapshot.{gate, header_bytes}
+use Rattle.nb_format.specs.Snapshot.{snapshot_gate, header_bytes}
 use Rattle.nb_format.proofs.Numbers.{same_u64}
 
 -- the fields of a header, each at its offset
 pub record HasHeader (w : List ℕ) (count time : ℕ) : Type 0 where
-  pub opened : slice_index w 0 ≡ gate
+  pub opened : slice_index w 0 ≡ snapshot_gate
   pub named : take 7 (drop 1 w) ≡ codes "NBSNAP1"
   pub counted : take 8 (drop 8 w) ≡ to_le_bytes w64 count
   pub timed : take 8 (drop 16 w) ≡ to_le_bytes w64 time
@@ -32,7 +32,7 @@ header_put w count time long put = sym (take_all 32 w (omega arith)) ∙ put
 -- bytes with the fields of a header are one
 pub header_from_fields : (w : List ℕ) (count time : ℕ) → length w ≡ 32 → HasHeader w count time → w ≡ header_bytes count time
 header_from_fields w count time long has =
-    let opened : take 1 w ≡ gate ∷ [] = take_more w 0 0 (omega arith) ∙ ap (λ (b : ℕ). b ∷ []) has.opened in
+    let opened : take 1 w ≡ snapshot_gate ∷ [] = take_more w 0 0 (omega arith) ∙ ap (λ (b : ℕ). b ∷ []) has.opened in
     header_put w count time long
     (take-add 24 8 w ∙ rw (take-add 16 8 w, take-add 8 8 w, take-add 1 7 w, opened, has.named, has.counted, has.timed, has.zeros) refl)
 

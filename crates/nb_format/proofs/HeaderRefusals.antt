@@ -10,7 +10,7 @@ use Rattle.std.proofs.lemmas.Slice.Eq.{bytes_eq-Decides}
 use Rattle.nb_model.specs.Limits.{most_bodies}
 use Rattle.nb_format.specs.declared.snap_error.SnapError.{SnapError}
 use Rattle.nb_format.specs.declared.snap_error.SnapError.TheVariants as snap
-use Rattle.nb_format.specs.Snapshot.{gate, header_bytes, snapshot_length, IsHeader}
+use Rattle.nb_format.specs.Snapshot.{snapshot_gate, header_bytes, snapshot_length, IsHeader}
 use Rattle.nb_format.specs.SnapshotRefusal.{u64_at, header_field_refusal, header_refusal, AreBytes, IsBySnapshot}
 use Rattle.nb_format.proofs.HeaderBytes.{header_has, header_from_fields, length-header_bytes}
 use Rattle.nb_format.proofs.Offsets.{u64_at-spells, u64_at-fits, u64_at-back, u64_at-take, part-take}
@@ -53,28 +53,28 @@ option_or_by (Some e) b first second = first
 
 -- ---- the fields
 
-pub unfinished_is : (w : List ℕ) → slice_index w 0 ≢ gate → header_field_refusal w ≡ Some snap.Unfinished
+pub unfinished_is : (w : List ℕ) → slice_index w 0 ≢ snapshot_gate → header_field_refusal w ≡ Some snap.Unfinished
 unfolding header_field_refusal
 unfinished_is w shut = cond-true _ _ _ (not_from_false _ (ne_eqb _ _ shut))
 
-pub magic_is : (w : List ℕ) → slice_index w 0 ≡ gate → take 7 (drop 1 w) ≢ codes "NBSNAP1" → header_field_refusal w ≡ Some snap.Magic
+pub magic_is : (w : List ℕ) → slice_index w 0 ≡ snapshot_gate → take 7 (drop 1 w) ≢ codes "NBSNAP1" → header_field_refusal w ≡ Some snap.Magic
 unfolding header_field_refusal
 magic_is w opened other =
     cond-false _ _ _ (not_from_true _ (eq-eqb _ _ opened))
     ∙ cond-true _ _ _ (not_from_false _ (false_from_ne_true _ (λ same. other ((bytes_eq-Decides _ _).0 same))))
 
 -- the numbers are looked at behind the name
-numbers_are : (w : List ℕ) → slice_index w 0 ≡ gate → take 7 (drop 1 w) ≡ codes "NBSNAP1"
+numbers_are : (w : List ℕ) → slice_index w 0 ≡ snapshot_gate → take 7 (drop 1 w) ≡ codes "NBSNAP1"
     → header_field_refusal w ≡ (if ltb most_bodies (u64_at 8 w) then Some snap.Count else if not (eqb (u64_at 24 w) 0) then Some snap.Zeros else None)
 unfolding header_field_refusal
 numbers_are w opened named =
     cond-false _ _ _ (not_from_true _ (eq-eqb _ _ opened)) ∙ cond-false _ _ _ (not_from_true _ ((bytes_eq-Decides _ _).1 named))
 
-pub count_is : (w : List ℕ) → slice_index w 0 ≡ gate → take 7 (drop 1 w) ≡ codes "NBSNAP1" → most_bodies < u64_at 8 w
+pub count_is : (w : List ℕ) → slice_index w 0 ≡ snapshot_gate → take 7 (drop 1 w) ≡ codes "NBSNAP1" → most_bodies < u64_at 8 w
     → header_field_refusal w ≡ Some snap.Count
 count_is w opened named many = numbers_are w opened named ∙ cond-true _ _ _ (lt-ltb _ _ many)
 
-pub zeros_is : (w : List ℕ) → slice_index w 0 ≡ gate → take 7 (drop 1 w) ≡ codes "NBSNAP1" → u64_at 8 w ≤ most_bodies → u64_at 24 w ≢ 0
+pub zeros_is : (w : List ℕ) → slice_index w 0 ≡ snapshot_gate → take 7 (drop 1 w) ≡ codes "NBSNAP1" → u64_at 8 w ≤ most_bodies → u64_at 24 w ≢ 0
     → header_field_refusal w ≡ Some snap.Zeros
 zeros_is w opened named few other =
     numbers_are w opened named ∙ cond-false _ _ _ (le-ltb _ _ few) ∙ cond-true _ _ _ (not_from_false _ (ne_eqb _ _ other))

@@ -11,14 +11,14 @@ use Rattle.nb_model.specs.declared.body.Body.{Body}
 use Rattle.nb_model.specs.Limits.{most_bodies}
 use Rattle.nb_format.specs.declared.snap_writer.Filling.{Filling}
 use Rattle.nb_model.specs.Bytes.{body_bytes}
-use Rattle.nb_format.specs.Snapshot.{gate, header_bytes, snapshot_length, IsStoredBody, IsSnapshot}
+use Rattle.nb_format.specs.Snapshot.{snapshot_gate, header_bytes, snapshot_length, IsStoredBody, IsSnapshot}
 use Rattle.nb_format.specs.Reader.{last_of}
-use Rattle.nb_format.specs.Writer.{Plan, plan_of, added_count, last_added, IsEmptyFilling, HasOneMore, HasFilled, HasShutGate, shut_bytes, IsFinishedAs}
+use Rattle.nb_format.specs.Writer.{SnapshotPlan, plan_of, added_count, last_added, IsEmptyFilling, HasOneMore, HasFilled, HasShutGate, shut_bytes, IsFinishedAs}
 use Rattle.nb_format.proofs.HeaderBytes.{length-header_bytes}
 use Rattle.nb_format.proofs.Snapshots.{length-records}
 use Rattle.nb_format.proofs.Reading.{last_of-push, stored-push}
 
-length-shut_bytes : (plan : Plan) (bodies : List Body) → length (shut_bytes plan bodies) ≡ snapshot_length (length bodies)
+length-shut_bytes : (plan : SnapshotPlan) (bodies : List Body) → length (shut_bytes plan bodies) ≡ snapshot_length (length bodies)
 length-shut_bytes plan bodies =
     let header = header_bytes plan.count plan.time in
     omega (arith, length-append (drop 1 header) (flat_map body_bytes bodies), length-drop 1 header, length-header_bytes plan.count plan.time, length-records bodies)
@@ -29,14 +29,14 @@ behind_gate count time =
     take_all 31 (drop 1 header) (omega (arith, length-drop 1 header, length-header_bytes count time))
 
 -- the header behind a shut gate, and no more
-pub begun_is : (plan : Plan) (shut new : List ℕ) → shut ≡ 0 ∷ [] → new ≡ overwritten 1 (drop 1 (header_bytes plan.count plan.time)) shut
+pub begun_is : (plan : SnapshotPlan) (shut new : List ℕ) → shut ≡ 0 ∷ [] → new ≡ overwritten 1 (drop 1 (header_bytes plan.count plan.time)) shut
     → new ≡ shut_bytes plan []
 begun_is plan shut new is put =
     let rest = drop 1 (header_bytes plan.count plan.time) in
     put ∙ ap (overwritten 1 rest) is ∙ overwritten-at_end rest (0 ∷ []) ∙ sym (append-nil (0 ∷ rest))
 
 -- one more body behind those that were added
-shut_bytes-push : (plan : Plan) (bodies : List Body) (b : Body) → shut_bytes plan bodies ++ body_bytes b ≡ shut_bytes plan (bodies ++ b ∷ [])
+shut_bytes-push : (plan : SnapshotPlan) (bodies : List Body) (b : Body) → shut_bytes plan bodies ++ body_bytes b ≡ shut_bytes plan (bodies ++ b ∷ [])
 shut_bytes-push plan bodies b =
     let header : List ℕ = 0 ∷ drop 1 (header_bytes plan.count plan.time) in
     append_assoc header (flat_map body_bytes bodies) (body_bytes b)
@@ -57,7 +57,7 @@ filled_more old new file written bodies b has more few room stored rises put =
     record {
       spelled = put ∙ ap (λ (n : ℕ). overwritten n (body_bytes b) file) at ∙ overwritten-at_end (body_bytes b) file
           ∙ ap (λ (w : List ℕ). w ++ body_bytes b) has.spelled ∙ shut_bytes-push (plan_of old) bodies b
-          ∙ ap (λ (plan : Plan). shut_bytes plan (bodies ++ b ∷ [])) (sym more.plan);
+          ∙ ap (λ (plan : SnapshotPlan). shut_bytes plan (bodies ++ b ∷ [])) (sym more.plan);
       added = more.added ∙ ap (λ (n : ℕ). n + 1) has.added ∙ sym (length_push bodies b);
       last = more.last ∙ sym (last_of-push bodies b);
       stored = stored-push bodies b has.stored stored above (omega (arith, has.added));
@@ -65,10 +65,10 @@ filled_more old new file written bodies b has more few room stored rises put =
 
 -- the file of a full filling is the snapshot, once its gate is opened
 pub opened_is : (filling : Filling) (file : List ℕ) (bodies : List Body) → HasFilled filling file bodies → added_count filling ≡ (plan_of filling).count
-    → (plan_of filling).time < 2 ^ 64 → IsSnapshot (gate ∷ drop 1 file) bodies (plan_of filling).time
+    → (plan_of filling).time < 2 ^ 64 → IsSnapshot (snapshot_gate ∷ drop 1 file) bodies (plan_of filling).time
 unfolding header_bytes
 opened_is filling file bodies has full fits = record {
-  spelled = ap (λ (w : List ℕ). gate ∷ drop 1 w) has.spelled
+  spelled = ap (λ (w : List ℕ). snapshot_gate ∷ drop 1 w) has.spelled
       ∙ ap (λ (n : ℕ). header_bytes n (plan_of filling).time ++ flat_map body_bytes bodies) (sym full ∙ has.added);
   stored = has.stored;
   fits = fits;
@@ -80,11 +80,11 @@ some_file filling file bodies has = omega (arith, ap length has.spelled, length-
 
 pub gate_written : (filling : Filling) (old new : Image) (bodies : List Body) → HasFilled filling (old.file (plan_of filling).file) bodies
     → added_count filling ≡ (plan_of filling).count → (plan_of filling).time < 2 ^ 64
-    → FileBecomes (plan_of filling).file (IsOverwritten 0 (gate ∷ [])) old new
+    → FileBecomes (plan_of filling).file (IsOverwritten 0 (snapshot_gate ∷ [])) old new
     → FileBecomes (plan_of filling).file (IsFinishedAs bodies (plan_of filling).time) old new
 gate_written filling old new bodies has full fits step =
     let file = old.file (plan_of filling).file in
-    let is = step.file ∙ overwritten-within 0 (gate ∷ []) file (omega arith) in
+    let is = step.file ∙ overwritten-within 0 (snapshot_gate ∷ []) file (omega arith) in
     record {
       file = subst (λ (w : List ℕ). IsSnapshot w bodies (plan_of filling).time) (sym is) (opened_is filling file bodies has full fits);
       others = step.others;
@@ -104,10 +104,10 @@ front_torn old new some torn =
     ext_get_or 0 new (slice_index new 0 ∷ drop 1 old) (omega (arith, length-drop 1 old)) (front_same old new long torn)
 
 -- what `begin` leaves is filled with no body
-pub begun_filled : (plan : Plan) (filling : Filling) (file : List ℕ) → IsEmptyFilling plan filling → file ≡ shut_bytes plan []
+pub begun_filled : (plan : SnapshotPlan) (filling : Filling) (file : List ℕ) → IsEmptyFilling plan filling → file ≡ shut_bytes plan []
     → HasFilled filling file []
 begun_filled plan filling file empty is = record {
-  spelled = is ∙ ap (λ (p : Plan). shut_bytes p []) (sym empty.plan);
+  spelled = is ∙ ap (λ (p : SnapshotPlan). shut_bytes p []) (sym empty.plan);
   added = empty.added;
   last = empty.last;
   stored = record { each = search rules; ids = search rules; count = omega arith };

@@ -4,6 +4,6 @@ use Rattle.nb_host.specs.declared.host.HostError.TheVariants as host
 use Rattle.nb_format.specs.declared.snap_error.SnapError.{SnapError}
 use Rattle.nb_format.specs.declared.snap_error.SnapError.TheVariants as snap
 
-abbrev pub error_of : HostError → SnapError
-error_of host.Fault = snap.Fault
-error_of host.NoMemory = snap.NoMemory
+abbrev pub of_host : HostError → SnapError
+of_host host.Fault = snap.Fault
+of_host host.NoMemory = snap.NoMemory

@@ -3,7 +3,7 @@ use Rattle.std.specs.Prelude.{◌≡◌, ℕ, ⊤, ◌+◌, ◌<◌, ◌≤◌, 
 use Rattle.std.specs.List.{flat_map}
 use Rattle.nb_model.specs.declared.body.Body.{Body}
 use Rattle.nb_model.specs.Limits.{most_bodies}
-use Rattle.nb_host.specs.Meaning.{HostModel, IsLeft}
+use Rattle.nb_host.specs.Meaning.{HostModel, FileIs}
 use Rattle.nb_format.specs.declared.snap_error.SnapError.{SnapError}
 use Rattle.nb_format.specs.declared.snap_error.SnapError.TheVariants as snap
 use Rattle.nb_format.specs.declared.snap_reader.SnapReader.{SnapReader}
@@ -72,8 +72,8 @@ IsFrontOf bytes now = (n : ℕ) × (now ≡ take n bytes)
 
 -- The reader's file is as its reader needs it, and stays so through calls that spare it (`law_reading_kept`): these are the
 -- bytes that it held when it was opened, and nothing is asked of what a crash may leave.
-abbrev pub IsOpenNow : {H : Type 0} → HostModel H → SnapReader → List ℕ → H → Type 0
-IsOpenNow m reader bytes host = IsLeft m (file_of reader) (IsFrontOf bytes) (λ reads image. ⊤) host
+abbrev pub IsReadableNow : {H : Type 0} → HostModel H → SnapReader → List ℕ → H → Type 0
+IsReadableNow m reader bytes host = FileIs m (file_of reader) (IsFrontOf bytes) (λ reads image. ⊤) host
 
 -- What a reader that isn't at its end refuses of a file that holds these bytes: the next record, or that the file ends
 -- before that record's end.

@@ -17,8 +17,8 @@ abbrev pub record_length : ℕ
 record_length = 64
 
 -- the first byte of a finished snapshot, F
-abbrev pub gate : ℕ
-gate = 70
+abbrev pub snapshot_gate : ℕ
+snapshot_gate = 70
 
 -- The header: the gate and the form's name, the count of bodies, the time, and eight zeros.
 unfoldable pub header_bytes : ℕ → ℕ → List ℕ
@@ -69,8 +69,8 @@ snapshot_length count = header_length + record_length * count
 -- A file is finished for a count of bodies where it has that length and its gate is open. Nothing else is looked at.
 pub record IsFinishedSnapshot (count : ℕ) (bytes : List ℕ) : Type 0 where
   pub whole : length bytes ≡ snapshot_length count
-  pub opened : slice_index bytes 0 ≡ gate
+  pub opened : slice_index bytes 0 ≡ snapshot_gate
 
 -- No more than the gate byte is there, or the gate is shut: nobody takes the file for a finished snapshot.
 abbrev pub IsUnfinished : List ℕ → Type 0
-IsUnfinished bytes = 1 < length bytes → slice_index bytes 0 ≢ gate
+IsUnfinished bytes = 1 < length bytes → slice_index bytes 0 ≢ snapshot_gate

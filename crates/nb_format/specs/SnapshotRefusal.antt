@@ -10,7 +10,7 @@ use Rattle.nb_model.specs.Limits.{box_side, speed_limit, most_bodies}
 use Rattle.nb_format.specs.declared.record.Fields.{Fields}
 use Rattle.nb_format.specs.declared.snap_error.SnapError.{SnapError}
 use Rattle.nb_format.specs.declared.snap_error.SnapError.TheVariants as snap
-use Rattle.nb_format.specs.Snapshot.{header_length, record_length, snapshot_length, gate}
+use Rattle.nb_format.specs.Snapshot.{header_length, record_length, snapshot_length, snapshot_gate}
 
 -- the number of the four bytes from an offset on
 unfoldable pub u32_at : ℕ → List ℕ → ℕ
@@ -27,7 +27,7 @@ i64_at at bytes = cast_signed w64 (u64_at at bytes)
 -- the first field of a header that isn't of the form
 unfoldable pub header_field_refusal : List ℕ → Option SnapError
 header_field_refusal bytes =
-    if not (slice_index bytes 0 == gate) then Some snap.Unfinished
+    if not (slice_index bytes 0 == snapshot_gate) then Some snap.Unfinished
     else if not (bytes_eq (take 7 (drop 1 bytes)) (codes "NBSNAP1")) then Some snap.Magic
     else if nat_lt most_bodies (u64_at 8 bytes) then Some snap.Count
     else if not (u64_at 24 bytes == 0) then Some snap.Zeros

@@ -10,15 +10,15 @@ use Rattle.nb_format.specs.Snapshot.{header_bytes, AreStoredBodies, IsSnapshot, 
 use Rattle.nb_format.specs.Reader.{last_of}
 
 -- the number of the file, the count of bodies and the time of a snapshot that is to be written
-pub record Plan : Type 0 where
+pub record SnapshotPlan : Type 0 where
   pub file : ℕ
   pub count : ℕ
   pub time : ℕ
 
-abbrev pub fresh_plan : Fresh → Plan
+abbrev pub fresh_plan : Fresh → SnapshotPlan
 fresh_plan fresh = record { file = fresh.file; count = fresh.count; time = fresh.time }
 
-abbrev pub plan_of : Filling → Plan
+abbrev pub plan_of : Filling → SnapshotPlan
 plan_of filling = record { file = filling.file; count = filling.count; time = filling.time }
 
 -- how many bodies were added
@@ -34,7 +34,7 @@ abbrev pub closed_file : Closed → ℕ
 closed_file closed = closed.file
 
 -- A filling without a body, over any host.
-pub record IsEmptyFilling (wanted : Plan) (filling : Filling) : Type 0 where
+pub record IsEmptyFilling (wanted : SnapshotPlan) (filling : Filling) : Type 0 where
   pub plan : plan_of filling ≡ wanted
   pub added : added_count filling ≡ 0
   pub last : last_added filling ≡ None
@@ -46,7 +46,7 @@ pub record HasOneMore (body : Body) (old new : Filling) : Type 0 where
   pub last : last_added new ≡ Some body.id
 
 -- the bytes of a snapshot with a shut gate, for a count of bodies of which these were added
-abbrev pub shut_bytes : Plan → List Body → List ℕ
+abbrev pub shut_bytes : SnapshotPlan → List Body → List ℕ
 shut_bytes plan bodies = 0 ∷ drop 1 (header_bytes plan.count plan.time) ++ flat_map body_bytes bodies
 
 -- The file holds the bodies that were added, behind a shut gate.
@@ -61,11 +61,11 @@ abbrev pub StaysUnfinished : List ℕ → List ℕ → Type 0
 StaysUnfinished old new = IsUnfinished old → IsUnfinished new
 
 -- Nothing of the file is left but a shut gate.
-abbrev pub IsShut : List ℕ → List ℕ → Type 0
-IsShut old new = new ≡ 0 ∷ []
+abbrev pub IsGateAlone : List ℕ → List ℕ → Type 0
+IsGateAlone old new = new ≡ 0 ∷ []
 
 -- The file holds exactly the begun snapshot without a body.
-abbrev pub IsBegun : Plan → List ℕ → List ℕ → Type 0
+abbrev pub IsBegun : SnapshotPlan → List ℕ → List ℕ → Type 0
 IsBegun plan old new = new ≡ shut_bytes plan []
 
 -- The gate byte is there, and is 0.

@@ -1,7 +1,7 @@
 //! Why a snapshot could not be read.
 
 ghost use Rattle.std.specs.Prelude.{◌≡◌};
-ghost use Rattle.nb_format.specs.Errors.{error_of};
+ghost use Rattle.nb_format.specs.Errors.{of_host};
 
 use nb_host::HostError;
 use thiserror::Error;
@@ -40,7 +40,7 @@ pub enum SnapError {
     /// The position isn't in the box.
     #[error("place at body {0}")]
     Place(u64),
-    /// A body in the box is too fast on an axis.
+    /// An unescaped body is too fast on an axis.
     #[error("speed at body {0}")]
     Speed(u64),
     /// The device failed. The host's count of faults rose.
@@ -52,7 +52,7 @@ pub enum SnapError {
 }
 
 impl From<HostError> for SnapError {
-    ghost from_gives = { λ error e. e ≡ error_of error };
+    ghost from_gives = { λ error e. e ≡ of_host error };
 
     fn from(error: HostError) -> Self {
         match error {

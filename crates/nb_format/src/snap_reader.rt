@@ -36,7 +36,7 @@ impl SnapReader {
     ghost use Rattle.nb_model.specs.Bytes.{body_bytes};
     ghost use Rattle.nb_format.specs.Snapshot.{snapshot_length, IsSnapshot};
     ghost use Rattle.nb_format.specs.SnapshotRefusal.{header_refusal, record_refusal, snapshot_refusal, IsOfHeader, IsOfRecord};
-    ghost use Rattle.nb_format.specs.Reader.{file_of, count_of, time_of, read_count, last_id, IsAtStart, MayFollow, IsBehind, HasRead, IsOpenNow, TellsNext};
+    ghost use Rattle.nb_format.specs.Reader.{file_of, count_of, time_of, read_count, last_id, IsAtStart, MayFollow, IsBehind, HasRead, IsReadableNow, TellsNext};
 
     /// Reads the header of the file, or tells the first of its fields that is bad. It only reads.
     pub fn begin<H: Host>(host: &mut H, file: u64) -> Result<SnapReader, SnapError>
@@ -104,7 +104,7 @@ impl SnapReader {
 
         // What the file holds, where the host tells: `bytes` is what it held when `begin` read its header.
         ensures body { (bytes : List ℕ) (bodies : List Body) → IsTrue H.meaning.tells
-            → HasRead self.old bytes bodies → IsOpenNow H.meaning self.old bytes host.old
+            → HasRead self.old bytes bodies → IsReadableNow H.meaning self.old bytes host.old
             → IfOk result (λ found. IfSome found (λ body. HasRead self.new bytes (bodies ++ body ∷ []))) }
         ensures whole { (bytes : List ℕ) (bodies : List Body) → HasRead self.old bytes bodies
             → result ≡ Ok None → IsSnapshot bytes bodies (time_of self.old) }
@@ -112,7 +112,7 @@ impl SnapReader {
             → HasRead self.old bytes bodies → (H.meaning.contents host.old).file (file_of self.old) ≡ bytes
             → IfErr result (λ e. IsBySnapshot e → snapshot_refusal bytes ≡ Some e) }
         ensures shorter { (bytes : List ℕ) (bodies : List Body) → IsTrue H.meaning.tells
-            → HasRead self.old bytes bodies → IsOpenNow H.meaning self.old bytes host.old
+            → HasRead self.old bytes bodies → IsReadableNow H.meaning self.old bytes host.old
             → IfErr result (λ e. IsBySnapshot e → (snapshot_refusal bytes ≡ Some e)
             ⊎ (length ((H.meaning.contents host.old).file (file_of self.old))
             < snapshot_length (read_count self.old + 1))) }

@@ -59,7 +59,7 @@ pub struct Closed {
 }
 
 impl Fresh {
-    ghost use Rattle.nb_format.specs.Writer.{fresh_plan, IsEmptyFilling, StaysUnfinished, IsShut, IsBegun};
+    ghost use Rattle.nb_format.specs.Writer.{fresh_plan, IsEmptyFilling, StaysUnfinished, IsGateAlone, IsBegun};
     ghost use Rattle.nb_format.specs.Images.{IsShutNow};
 
     /// The snapshot of `count` bodies at a time in ticks, which is to be written into the file.
@@ -97,7 +97,7 @@ impl Fresh {
     /// Leaves nothing of the file but a durable 0 in place of its gate.
     fn shut<H: Host>(&self, host: &mut H) -> Result<(), HostError>
         ensures shut { OnOk result
-            (Over H.meaning (FileBecomes (fresh_plan self.now).file IsShut) host.old host.new) }
+            (Over H.meaning (FileBecomes (fresh_plan self.now).file IsGateAlone) host.old host.new) }
         ensures durable { OnOk result (IsDurable H.meaning host.new) }
         ensures ran { RanSyncing H.meaning 2 HostError.Fault
             (FileBecomes (fresh_plan self.now).file StaysUnfinished) host.old host.new result }

@@ -6,11 +6,10 @@ use Rattle.std.proofs.lemmas.Grind.{common_steps}
 use Rattle.std.proofs.lemmas.Slice.{drop-append-drop}
 use Rattle.std.proofs.lemmas.List.{take_at, get_or-take, get_or-drop, ext_get_or}
 use Rattle.std.proofs.lemmas.List.Elements.{Contains-append_left, Contains-append_right}
-use Rattle.nb_host.specs.Crashes.{CrashModel, ImagesFollow, IsStretch, Stays, AgreesOutside, ChangesOnly, EverySince, CountsOnlyNow, CountsEarlier}
+use Rattle.nb_host.specs.Crashes.{CrashModel, ImagesFollow, Stays, AgreesOutside, ChangesOnly, EverySince, IncludesOnlyNow, IncludesEarlier}
 use Rattle.nb_host.specs.Counts.{next_count}
-use Rattle.nb_host.specs.Faults.{Rose}
-use Rattle.nb_host.specs.Image.{Image, overwritten, readable, IsTorn, IsPartlyCut, FileBecomes, Says, SaysPart, Spares}
-use Rattle.nb_host.specs.Meaning.{HostModel, Leads, Over, Stopped, Counts, Ran, RanSyncing, Spoke, Tally, IsDurable, IsDurableFile, IsLeft, StaysLeft, untold_host}
+use Rattle.nb_host.specs.Image.{Image, overwritten, readable, IsTorn, IsPartlyCut, FileBecomes, Says, SaysPart, KeepsFile}
+use Rattle.nb_host.specs.Meaning.{HostModel, Leads, Over, HaltedAtFault, Counts, Ran, RanSyncing, RanSaying, CallTally, IsDurable, IsDurableFile, FileIs, FileStays, untold_host}
 use Rattle.nb_host.specs.Page.{HasPage, page_of, page_start, same_page}
 use Rattle.nb_host.specs.declared.host.Channel.{Channel}
 use Rattle.nb_host.specs.declared.host.HostError.{HostError}
@@ -55,13 +54,6 @@ torn_by_first at n len less torn = record {
   above = λ i within after. torn.above i within (omega arith);
 }
 
-pub cut_is_partly_cut : (len : ℕ) (file : List ℕ) → IsPartlyCut len file (take len file)
-cut_is_partly_cut len file = record {
-  no_shorter = grind (arith, common_steps);
-  no_longer = grind (arith, common_steps);
-  below = λ i within before. get_or-take len file i 0 before;
-}
-
 -- nothing done is a cut in part
 pub partly_cut_by_nothing : (len : ℕ) (file : List ℕ) → IsPartlyCut len file file
 partly_cut_by_nothing len file =
@@ -77,23 +69,6 @@ pub overwritten-within : (at : ℕ) (bytes file : List ℕ) → at ≤ length fi
     → overwritten at bytes file ≡ take at file ++ bytes ++ drop (at + length bytes) file
 overwritten-within at [] file within = grind (arith, common_steps)
 overwritten-within at (b ∷ bytes) file within = grind (arith, common_steps)
-
--- two writes one after the other are one
-pub overwritten-overwritten : (at : ℕ) (first second file : List ℕ) → at ≤ length file
-    → overwritten (at + length first) second (overwritten at first file)
-    ≡ overwritten at (first ++ second) file
-overwritten-overwritten at first second file within =
-    let front = take at file ++ first in
-    let rest = drop (at + length first) file in
-    let length_front : length front ≡ at + length first = grind (arith, common_steps) in
-    let once = overwritten-within at first file within in
-    let inside : at + length first ≤ length (front ++ rest) = omega (arith, length-append front rest) in
-    let end = at + length first in
-    let kept = take_at front rest end length_front in
-    let past = drop-append-drop end file front (end + length second) (omega arith) length_front in
-    let twice = overwritten-within end second (front ++ rest) inside in
-    let whole = overwritten-within at (first ++ second) file within in
-    rw once (twice ∙ rw (kept, past, whole, length-append, ← append_assoc, ← add_assoc))
 
 -- what was written is what a read of its range sees
 pub readable-overwritten : (at : ℕ) (bytes file : List ℕ)
@@ -166,12 +141,6 @@ becomes_same number P {old = old} same stays =
 
 -- Counts.
 
-pub rose_from_less : {before middle now : ℕ} → before ≤ middle → Rose middle now → Rose before now
-rose_from_less less rose = omega arith
-
-pub rose_to_more : (before : ℕ) {middle now : ℕ} → Rose before middle → middle ≤ now → Rose before now
-rose_to_more before rose more = omega arith
-
 -- Stretches of calls, by what they do to the images that a crash may leave.
 
 -- no call yet
@@ -202,11 +171,6 @@ weaken run more = record {
     keeps = by.keeps;
   };
 }
-
--- a stretch of which no more is said
-pub is_stretch : {H : Type 0} {model : CrashModel H} {old new : H} {S : Image → Image → Type 0}
-    → ImagesFollow model old new S → IsStretch model old new
-is_stretch run = weaken run (λ start image step. tt)
 
 -- A stretch after another. What joins the two steps may use what is known of the images in the middle.
 pub goes_on : {H : Type 0} {model : CrashModel H} {old middle new : H} {S T U : Image → Image → Type 0}
@@ -265,17 +229,9 @@ stays_after {S = S} first second =
     goes_on first second (λ start image step. step)
     (λ start between image _ one _ two. subst (λ (i : Image). S start i) (sym two) one)
 
--- a stretch after a call that changes nothing
-pub stays_before : {H : Type 0} {model : CrashModel H} {old middle new : H} {S : Image → Image → Type 0}
-    → ((image : Image) → S image image) → ImagesFollow model old middle Stays → ImagesFollow model middle new S
-    → ImagesFollow model old new S
-stays_before {S = S} itself first second =
-    goes_on first second (λ start image same. subst (λ (i : Image). S start i) (sym same) (itself start))
-    (λ start between image _ same _ step. subst (λ (i : Image). S i image) same step)
-
 -- what follows by the step from every image at the start holds of every image since
 pub every_since : {H : Type 0} {model : CrashModel H} {old new : H} {S : Image → Image → Type 0}
-    (P : Image → Type 0) → CountsOnlyNow model → ImagesFollow model old new S
+    (P : Image → Type 0) → IncludesOnlyNow model → ImagesFollow model old new S
     → ((image : Image) → IsTrue model.is_honest → model.may_leave old image → P image)
     → ((start image : Image) → IsTrue model.is_honest → model.may_leave old start → S start image → P image)
     → EverySince model P old new
@@ -299,7 +255,7 @@ since_either {model = model} {old = old} {middle = middle} first second image ho
 
 -- Each image of the one or the other is one since the start of both.
 pub either_since : {H : Type 0} {model : CrashModel H} {old middle new : H} {S T : Image → Image → Type 0}
-    → CountsEarlier model → ImagesFollow model old middle S → ImagesFollow model middle new T → (image : Image)
+    → IncludesEarlier model → ImagesFollow model old middle S → ImagesFollow model middle new T → (image : Image)
     → IsTrue model.is_honest
     → model.left_since middle (model.moment old) image ⊎ model.left_since new (model.moment middle) image
     → model.left_since new (model.moment old) image
@@ -308,16 +264,6 @@ either_since {model = model} {old = old} {middle = middle} {new = new} counts fi
     elim either [
       | inl before ↦ (second.follows honest).keeps (model.moment old) image one.later before
       | inr after ↦ counts new (model.moment old) (model.moment middle) image honest one.later after
-    ]
-
--- what holds of every image of both stretches, each by itself, holds of every image since the start of the first
-pub every_both : {H : Type 0} {model : CrashModel H} {old middle new : H} {S T : Image → Image → Type 0}
-    (P : Image → Type 0) → ImagesFollow model old middle S → ImagesFollow model middle new T
-    → EverySince model P old middle → EverySince model P middle new → EverySince model P old new
-every_both P first second before after = λ image honest since.
-    elim (since_either first second image honest since) [
-      | inl is ↦ before image honest is
-      | inr is ↦ after image honest is
     ]
 
 -- Stretches that change only some files.
@@ -362,13 +308,8 @@ changes_both {first = first} {second = second} one two =
     goes_on one two (λ start image agrees. agrees_more (Contains-append_left first second) agrees)
     (λ start between image _ before _ after. agrees_both before after)
 
--- a stretch that changes only a file, by what it does to that one
-pub changes_file : {H : Type 0} {model : CrashModel H} {number : ℕ} {P : List ℕ → List ℕ → Type 0} {old new : H}
-    → ImagesFollow model old new (FileBecomes number P) → ChangesOnly model (number ∷ []) old new
-changes_file run = weaken run (λ start image becomes. becomes_agrees becomes)
-
 -- every image since the start agrees outside the files with an image at the start
-pub changes_every : {H : Type 0} {model : CrashModel H} {files : List ℕ} {old new : H} → CountsOnlyNow model
+pub changes_every : {H : Type 0} {model : CrashModel H} {files : List ℕ} {old new : H} → IncludesOnlyNow model
     → ChangesOnly model files old new
     → EverySince model (λ image. (start : Image) × model.may_leave old start × AgreesOutside files start image) old new
 changes_every {model = model} {files = files} {old = old} only run =
@@ -377,7 +318,7 @@ changes_every {model = model} {files = files} {old = old} only run =
 
 -- What is durable in one file reads as before after calls that spare it, since it does in every image.
 pub durable_file_reads : {H : Type 0} (m : HostModel H) {number : ℕ} {old new : H} → IsDurableFile m number old
-    → ImagesFollow m.crashes old new (Spares number) → IsTrue m.crashes.is_honest
+    → ImagesFollow m.crashes old new (KeepsFile number) → IsTrue m.crashes.is_honest
     → (m.contents new).file number ≡ (m.contents old).file number
 durable_file_reads m {new = new} durable run honest =
     let start = (run.follows honest).now (m.contents new) (m.leaves_contents new honest) in
@@ -385,14 +326,14 @@ durable_file_reads m {new = new} durable run honest =
 
 -- It stays durable.
 pub durable_file_spared : {H : Type 0} (m : HostModel H) {number : ℕ} {old new : H} → IsDurableFile m number old
-    → ImagesFollow m.crashes old new (Spares number) → IsDurableFile m number new
+    → ImagesFollow m.crashes old new (KeepsFile number) → IsDurableFile m number new
 durable_file_spared m durable run = λ image honest is.
     let start = (run.follows honest).now image is in
     start.2 ∙ durable start.0 honest start.1 ∙ sym (durable_file_reads m durable run honest)
 
 -- Both for calls that change only other files.
 changes_spare : {H : Type 0} {model : CrashModel H} {files : List ℕ} {number : ℕ} {old new : H}
-    → (Contains files number → ⊥) → ChangesOnly model files old new → ImagesFollow model old new (Spares number)
+    → (Contains files number → ⊥) → ChangesOnly model files old new → ImagesFollow model old new (KeepsFile number)
 changes_spare {number = number} spared run = weaken run (λ start image agrees. agrees.others number spared)
 
 pub durable_file_holds : {H : Type 0} (m : HostModel H) {files : List ℕ} {number : ℕ} {old new : H}
@@ -407,7 +348,7 @@ durable_file_stays m spared durable run = durable_file_spared m durable (changes
 
 -- and for a say
 pub said_spares : {H : Type 0} {model : CrashModel H} {number : ℕ} {channel : Channel} {bytes : List ℕ} {old new : H}
-    → ImagesFollow model old new (SaysPart channel bytes) → ImagesFollow model old new (Spares number)
+    → ImagesFollow model old new (SaysPart channel bytes) → ImagesFollow model old new (KeepsFile number)
 said_spares {number = number} run =
     weaken run (λ start image says. ap (λ (files : ℕ → List ℕ). files number) says.2.files)
 
@@ -466,21 +407,21 @@ leads_before {S = S} itself first second =
 -- Calls that spare a file: those on other files, a sync, and a say.
 
 pub others_spare : {H : Type 0} {m : HostModel H} {file : ℕ} {files : List ℕ} {old new : H} → (Contains files file → ⊥)
-    → Leads m (AgreesOutside files) old new → Leads m (Spares file) old new
+    → Leads m (AgreesOutside files) old new → Leads m (KeepsFile file) old new
 others_spare {file = file} apart leads = leads_more leads (λ start image agrees. agrees.others file apart)
 
 pub sync_spares : {H : Type 0} {m : HostModel H} {file : ℕ} {old new : H} → Leads m Stays old new
-    → Leads m (Spares file) old new
+    → Leads m (KeepsFile file) old new
 sync_spares {file = file} leads = leads_more leads (λ start image same. ap (λ (i : Image). i.file file) same)
 
 pub say_spares : {H : Type 0} {m : HostModel H} {file : ℕ} {channel : Channel} {bytes : List ℕ} {old new : H}
-    → Leads m (SaysPart channel bytes) old new → Leads m (Spares file) old new
+    → Leads m (SaysPart channel bytes) old new → Leads m (KeepsFile file) old new
 say_spares {file = file} leads =
     leads_more leads (λ start image says. ap (λ (files : ℕ → List ℕ). files file) says.2.files)
 
 -- A file that is as its last call left it stays so through them.
 pub left_stays : {H : Type 0} (m : HostModel H) {file : ℕ} {this : List ℕ → Type 0} {that : List ℕ → List ℕ → Type 0}
-    {old new : H} → Leads m (Spares file) old new → IsLeft m file this that old → IsLeft m file this that new
+    {old new : H} → Leads m (KeepsFile file) old new → FileIs m file this that old → FileIs m file this that new
 left_stays m {file = file} {this = this} {that = that} {old = old} leads left = record {
   reads = λ tells. subst this (sym (leads.contents tells)) (left.reads tells);
   images = λ image honest is.
@@ -489,8 +430,8 @@ left_stays m {file = file} {this = this} {that = that} {old = old} leads left = 
       (subst (λ (w : List ℕ). that ((m.contents old).file file) w) (sym start.2) (left.images start.0 honest start.1));
 }
 
-pub stays_left : {H : Type 0} (m : HostModel H) {file : ℕ} {old new : H} → Leads m (Spares file) old new
-    → StaysLeft m file old new
+pub stays_left : {H : Type 0} (m : HostModel H) {file : ℕ} {old new : H} → Leads m (KeepsFile file) old new
+    → FileStays m file old new
 stays_left m leads = left_stays m leads (record { reads = λ _. refl; images = λ image _ is. (image, is, refl) })
 
 -- Calls after a sync: each image is one before it, or follows from what read at the sync.
@@ -537,18 +478,8 @@ ok_is_no_error {T = T} {E = E} ok same =
 
 -- calls that came to an end at a fault, after others that met none
 pub stopped_after : {H : Type 0} {m : HostModel H} {old middle new : H} → m.faults middle ≡ m.faults old
-    → Stopped m middle new → Stopped m old new
+    → HaltedAtFault m middle new → HaltedAtFault m old new
 stopped_after same stopped = record { count = stopped.count ∙ ap next_count same; last = stopped.last }
-
--- no call yet
-pub counts_none : {H T E : Type 0} (m : HostModel H) {fault : E} (host : H) {result : Result T E}
-    → result ≢ Err fault → Counts m fault host host result
-counts_none m host never = record {
-  count = omega arith;
-  rose = λ err. absurd (never err);
-  spared = λ _. refl;
-  tally = refl;
-}
 
 -- calls after others that met no fault, said nothing and synced nothing
 pub counts_after : {H T E : Type 0} {m : HostModel H} {fault : E} {old middle new : H} {result : Result T E}
@@ -597,9 +528,9 @@ syncing_none {m = m} ran = record {
   count = ran.count;
   rose = ran.rose;
   spared = ran.spared;
-  refused = ap (λ (t : Tally). t.refused_says) ran.tally;
-  synced = λ _ _. let same = ap (λ (t : Tally). t.syncs) ran.tally in omega arith;
-  at_most = λ _. let same = ap (λ (t : Tally). t.syncs) ran.tally in omega arith;
+  refused = ap (λ (t : CallTally). t.refused_says) ran.tally;
+  synced = λ _ _. let same = ap (λ (t : CallTally). t.syncs) ran.tally in omega arith;
+  at_most = λ _. let same = ap (λ (t : CallTally). t.syncs) ran.tally in omega arith;
 }
 
 -- calls after others that answered Ok, with where both lead
@@ -620,36 +551,6 @@ syncing_then {m = m} {old = old} {middle = middle} {new = new} {result = result}
       at_most = λ tells. omega (arith, before.synced tells ok, after.at_most tells);
     }
 
--- another answer, which stands for a fault exactly where this one does, and isn't Ok where this one isn't
-pub syncing_as : {H T U E F : Type 0} {m : HostModel H} {syncs : ℕ} {fault : E} {other_fault : F}
-    {by : Image → Image → Type 0} {old new : H} {result : Result T E} {other : Result U F}
-    → RanSyncing m syncs fault by old new result → (other ≡ Err other_fault → result ≡ Err fault)
-    → (result ≡ Err fault → other ≡ Err other_fault) → (IsOk other → IsOk result)
-    → RanSyncing m syncs other_fault by old new other
-syncing_as ran there back fine = record {
-  leads = ran.leads;
-  count = ran.count;
-  rose = λ err. ran.rose (there err);
-  spared = λ never. ran.spared (λ err. never (back err));
-  refused = ran.refused;
-  synced = λ tells ok. ran.synced tells (fine ok);
-  at_most = ran.at_most;
-}
-
--- fewer syncs than there may be, where the calls were refused
-pub syncing_refused : {H T E : Type 0} {m : HostModel H} {fewer more : ℕ} {fault : E} {by : Image → Image → Type 0}
-    {old new : H} {result : Result T E} → (IsOk result → ⊥) → fewer ≤ more
-    → RanSyncing m fewer fault by old new result → RanSyncing m more fault by old new result
-syncing_refused never less ran = record {
-  leads = ran.leads;
-  count = ran.count;
-  rose = ran.rose;
-  spared = ran.spared;
-  refused = ran.refused;
-  synced = λ _ ok. absurd (never ok);
-  at_most = λ tells. omega (arith, ran.at_most tells, less);
-}
-
 -- how often calls sync, as far as it is known: of a host that tells
 pub syncing_told : {H T E : Type 0} {m : HostModel H} {one two : ℕ} {fault : E} {by : Image → Image → Type 0}
     {old new : H} {result : Result T E} → (IsTrue m.tells → one ≡ two) → RanSyncing m one fault by old new result
@@ -662,20 +563,6 @@ syncing_told same ran = record {
   refused = ran.refused;
   synced = λ tells ok. omega (arith, same tells, ran.synced tells ok);
   at_most = λ tells. omega (arith, same tells, ran.at_most tells);
-}
-
--- the step that calls lead by, weakened
-pub syncing_by : {H T E : Type 0} {m : HostModel H} {syncs : ℕ} {fault : E} {one by : Image → Image → Type 0}
-    {old new : H} {result : Result T E} → RanSyncing m syncs fault one old new result → Leads m by old new
-    → RanSyncing m syncs fault by old new result
-syncing_by ran leads = record {
-  leads = leads;
-  count = ran.count;
-  rose = ran.rose;
-  spared = ran.spared;
-  refused = ran.refused;
-  synced = ran.synced;
-  at_most = ran.at_most;
 }
 
 -- Hosts that tell nothing.
@@ -715,7 +602,7 @@ untold_syncing count rose spared = record {
 pub untold_spoke : {H : Type 0} {faults : H → ℕ} {channel : Channel} {bytes : List ℕ} {old new : H}
     {result : Result (Unit {0}) HostError} → faults old ≤ faults new
     → (result ≡ Err Fault → faults new ≡ next_count (faults old)) → (result ≢ Err Fault → faults new ≡ faults old)
-    → Spoke (untold_host faults) channel bytes old new result
+    → RanSaying (untold_host faults) channel bytes old new result
 untold_spoke {faults = faults} {channel = channel} {bytes = bytes} {old = old} {new = new} {result = result} count rose spared = record {
   said = elim result as (λ (r : Result (Unit {0}) HostError). OnOk r (Over (untold_host faults) (Says channel bytes) old new))
       [ Ok x ↦ λ tells. absurd (search rules) | Err error ↦ tt ];

@@ -163,22 +163,6 @@ found-set (stored ∷ others) number now other within same =
           ])
     ]
 
--- where a file without bytes is added for a number that none has, it is the one
-pub position-added : (files : List StoredFile) (added : StoredFile)
-    → length files ≤ position_or_len (is_file added.number) files
-    → position_or_len (is_file added.number) (files ++ added ∷ []) ≡ length files
-position-added [] added absent = first_here added [] added.number (eq-eqb added.number added.number refl)
-position-added (stored ∷ others) added absent =
-    elim (eqb_tells stored.number added.number) [
-      | inl same ↦
-          let none = first_here stored others added.number same.0 in
-          absurd (omega (arith, none, absent))
-      | inr apart ↦
-          let later = first_later stored others added.number apart.0 in
-          first_later stored (others ++ added ∷ []) added.number apart.0
-          ∙ ap suc (position-added others added (omega (arith, later, absent)))
-    ]
-
 -- where each file becomes what another is made of
 pub found-each : (f g : StoredFile → DiskFile) (old new : List StoredFile) → length new ≡ length old
     → ((k : ℕ) (other : StoredFile) → k < length old

@@ -73,16 +73,16 @@ LeavesSaid {H} model contents = (host : H) (image : Image) → IsTrue model.is_h
     → image.said ≡ (contents host).said
 
 -- An image of now is one since each moment up to now.
-abbrev pub CountsNow : {H : Type 0} → CrashModel H → Type 0
-CountsNow {H} model = (host : H) (moment : ℕ) (image : Image) → IsTrue model.is_honest
+abbrev pub IncludesNow : {H : Type 0} → CrashModel H → Type 0
+IncludesNow {H} model = (host : H) (moment : ℕ) (image : Image) → IsTrue model.is_honest
     → moment ≤ model.moment host → model.may_leave host image → model.left_since host moment image
 
 -- An image since a later moment is one since an earlier one.
-abbrev pub CountsEarlier : {H : Type 0} → CrashModel H → Type 0
-CountsEarlier {H} model = (host : H) (earlier later : ℕ) (image : Image) → IsTrue model.is_honest
+abbrev pub IncludesEarlier : {H : Type 0} → CrashModel H → Type 0
+IncludesEarlier {H} model = (host : H) (earlier later : ℕ) (image : Image) → IsTrue model.is_honest
     → earlier ≤ later → model.left_since host later image → model.left_since host earlier image
 
 -- An image since now is one of now.
-abbrev pub CountsOnlyNow : {H : Type 0} → CrashModel H → Type 0
-CountsOnlyNow {H} model = (host : H) (image : Image) → IsTrue model.is_honest
+abbrev pub IncludesOnlyNow : {H : Type 0} → CrashModel H → Type 0
+IncludesOnlyNow {H} model = (host : H) (image : Image) → IsTrue model.is_honest
     → model.left_since host (model.moment host) image → model.may_leave host image

@@ -187,22 +187,22 @@ pub image_counts : (events : List Event) (moment : ℕ) (image : Image) → IsCr
 image_counts [] moment image is = is
 image_counts (event ∷ earlier) moment image is = inl is
 
-pub counts_only_now : (events : List Event) (image : Image) → IsImageSince events (length events) image
+pub includes_only_now : (events : List Event) (image : Image) → IsImageSince events (length events) image
     → IsCrashImage (disk_after events) image
-counts_only_now [] image since = since
-counts_only_now (event ∷ earlier) image (inl now) = now
-counts_only_now (event ∷ earlier) image (inr before) = absurd (omega (arith, before.0))
+includes_only_now [] image since = since
+includes_only_now (event ∷ earlier) image (inl now) = now
+includes_only_now (event ∷ earlier) image (inr before) = absurd (omega (arith, before.0))
 
 -- an image since a later moment is one since an earlier one
-pub counts_earlier : (events : List Event) (early late : ℕ) (image : Image) → early ≤ late
+pub includes_earlier : (events : List Event) (early late : ℕ) (image : Image) → early ≤ late
     → IsImageSince events late image → IsImageSince events early image
-counts_earlier [] early late image less since = since
-counts_earlier (event ∷ before) early late image less (inl now) = inl now
-counts_earlier (event ∷ before) early late image less (inr past) =
+includes_earlier [] early late image less since = since
+includes_earlier (event ∷ before) early late image less (inl now) = inl now
+includes_earlier (event ∷ before) early late image less (inr past) =
     inr (
       omega (arith, less, past.0),
       elim past.1 [
         | inl within ↦ inl within
-        | inr since ↦ inr (counts_earlier before early late image less since)
+        | inr since ↦ inr (includes_earlier before early late image less since)
       ],
     )

@@ -57,5 +57,5 @@ abbrev pub readable : ℕ → ℕ → List ℕ → List ℕ
 readable at room file = take room (drop at file)
 
 -- One file stays as it is, whatever else changes: so do calls on other files, a sync and a say.
-abbrev pub Spares : ℕ → Image → Image → Type 0
-Spares file old new = new.file file ≡ old.file file
+abbrev pub KeepsFile : ℕ → Image → Image → Type 0
+KeepsFile file old new = new.file file ≡ old.file file

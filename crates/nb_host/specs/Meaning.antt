@@ -1,7 +1,7 @@
 -- What a host means, and what each of its calls owes by that.
 use Rattle.std.specs.Prelude.{◌≡◌, ◌≢◌, ℕ, ◌+◌, ◌≤◌, Bool, true, false, IsTrue, List, [], Result, Err, IsOk, OnOk}
 use Rattle.std.proofs.Common.{refl, rules}
-use Rattle.nb_host.specs.Crashes.{CrashModel, ImagesFollow, Stays, LeavesContents, LeavesSaid, CountsNow, CountsOnlyNow, CountsEarlier}
+use Rattle.nb_host.specs.Crashes.{CrashModel, ImagesFollow, Stays, LeavesContents, LeavesSaid, IncludesNow, IncludesOnlyNow, IncludesEarlier}
 use Rattle.nb_host.specs.Counts.{next_count}
 use Rattle.nb_host.specs.Faults.{CountsRefusedSay}
 use Rattle.nb_host.specs.Image.{Image, Says, SaysPart}
@@ -10,7 +10,7 @@ use Rattle.nb_host.specs.declared.host.HostError.{HostError}
 use Rattle.nb_host.specs.declared.host.HostError.TheVariants.{Fault, NoMemory}
 
 -- What a host counts beside its faults.
-pub record Tally : Type 0 where
+pub record CallTally : Type 0 where
   -- how many calls of `say` on each channel were refused
   pub refused_says : Channel → ℕ
   -- how many calls of `sync` succeeded
@@ -28,7 +28,7 @@ pub record HostModel (H : Type 0) : Type 1 where
   -- whether the last call answered Fault, so that none was made after it
   pub halted : H → Bool
   -- what else it counts
-  pub tally : H → Tally
+  pub tally : H → CallTally
   -- What a crash may leave of the files and of what was said, now and since each moment. It is known of an honest host
   -- alone: one that returns what was written, and whose syncs that succeed make it durable.
   pub crashes : CrashModel H
@@ -41,11 +41,11 @@ pub record HostModel (H : Type 0) : Type 1 where
   -- what was said stays
   pub leaves_said : LeavesSaid crashes contents
   -- what a crash may leave now, it may have left at some moment from an earlier one on
-  pub counts_now : CountsNow crashes
+  pub includes_now : IncludesNow crashes
   -- what a crash may have left from now on, it may leave now
-  pub counts_only_now : CountsOnlyNow crashes
+  pub includes_only_now : IncludesOnlyNow crashes
   -- what a crash may have left from a moment on, it may have left from each earlier one on
-  pub counts_earlier : CountsEarlier crashes
+  pub includes_earlier : IncludesEarlier crashes
 
 -- the contents of a host that tells change by this step
 abbrev pub Over : {H : Type 0} → HostModel H → (Image → Image → Type 0) → H → H → Type 0
@@ -68,20 +68,20 @@ IsDurableFile m number host = (image : Image) → IsTrue m.crashes.is_honest →
     → image.file number ≡ (m.contents host).file number
 
 -- One file is as its last call left it, which is what the next one needs: what reads of it is `this`, of a host that tells,
--- and what a crash may leave of it is, beside what reads, `that`. It stays so through calls that spare the file (`law_left`).
-pub record IsLeft {H : Type 0} (m : HostModel H) (file : ℕ) (this : List ℕ → Type 0) (that : List ℕ → List ℕ → Type 0) (host : H) : Type 0 where
+-- and what a crash may leave of it is, beside what reads, `that`. It stays so through calls that spare the file (`law_file_stays`).
+pub record FileIs {H : Type 0} (m : HostModel H) (file : ℕ) (this : List ℕ → Type 0) (that : List ℕ → List ℕ → Type 0) (host : H) : Type 0 where
   pub reads : IsTrue m.tells → this ((m.contents host).file file)
   pub images : (image : Image) → IsTrue m.crashes.is_honest → m.crashes.may_leave host image
       → that ((m.contents host).file file) (image.file file)
 
 -- One file stays as it was left, whatever that was: what reads of it read before, and what a crash may leave of it, it
 -- might have left before.
-abbrev pub StaysLeft : {H : Type 0} → HostModel H → ℕ → H → H → Type 0
-StaysLeft m file old new = IsLeft m file (λ reads. reads ≡ (m.contents old).file file)
+abbrev pub FileStays : {H : Type 0} → HostModel H → ℕ → H → H → Type 0
+FileStays m file old new = FileIs m file (λ reads. reads ≡ (m.contents old).file file)
     (λ reads image. (start : Image) × m.crashes.may_leave old start × (image ≡ start.file file)) new
 
 -- Calls came to an end at a fault: one of them answered Fault, the last one. Nothing was tried again, and nothing went on.
-pub record Stopped {H : Type 0} (m : HostModel H) (old new : H) : Type 0 where
+pub record HaltedAtFault {H : Type 0} (m : HostModel H) (old new : H) : Type 0 where
   pub count : m.faults new ≡ next_count (m.faults old)
   pub last : IsTrue (m.halted new)
 
@@ -89,7 +89,7 @@ pub record Stopped {H : Type 0} (m : HostModel H) (old new : H) : Type 0 where
 -- answer where there was none. No say was refused, and nothing was synced.
 pub record Counts {H T E : Type 0} (m : HostModel H) (fault : E) (old new : H) (result : Result T E) : Type 0 where
   pub count : m.faults old ≤ m.faults new
-  pub rose : result ≡ Err fault → Stopped m old new
+  pub rose : result ≡ Err fault → HaltedAtFault m old new
   pub spared : result ≢ Err fault → m.faults new ≡ m.faults old
   pub tally : m.tally new ≡ m.tally old
 
@@ -97,7 +97,7 @@ pub record Counts {H T E : Type 0} (m : HostModel H) (fault : E) (old new : H) (
 pub record Ran {H T E : Type 0} (m : HostModel H) (fault : E) (by : Image → Image → Type 0) (old new : H) (result : Result T E) : Type 0 where
   pub leads : Leads m by old new
   pub count : m.faults old ≤ m.faults new
-  pub rose : result ≡ Err fault → Stopped m old new
+  pub rose : result ≡ Err fault → HaltedAtFault m old new
   pub spared : result ≢ Err fault → m.faults new ≡ m.faults old
   pub tally : m.tally new ≡ m.tally old
 
@@ -106,7 +106,7 @@ pub record Ran {H T E : Type 0} (m : HostModel H) (fault : E) (by : Image → Im
 pub record RanSyncing {H T E : Type 0} (m : HostModel H) (syncs : ℕ) (fault : E) (by : Image → Image → Type 0) (old new : H) (result : Result T E) : Type 0 where
   pub leads : Leads m by old new
   pub count : m.faults old ≤ m.faults new
-  pub rose : result ≡ Err fault → Stopped m old new
+  pub rose : result ≡ Err fault → HaltedAtFault m old new
   pub spared : result ≢ Err fault → m.faults new ≡ m.faults old
   pub refused : (m.tally new).refused_says ≡ (m.tally old).refused_says
   pub synced : IsTrue m.tells → IsOk result → (m.tally new).syncs ≡ (m.tally old).syncs + syncs
@@ -114,12 +114,12 @@ pub record RanSyncing {H T E : Type 0} (m : HostModel H) (syncs : ℕ) (fault : 
 
 -- A say: at Ok all the bytes were said, at NoMemory none, after Fault perhaps the first of them. It counts where it is
 -- refused.
-pub record Spoke {H : Type 0} (m : HostModel H) (channel : Channel) (bytes : List ℕ) (old new : H) (result : Result (Unit {0}) HostError) : Type 0 where
+pub record RanSaying {H : Type 0} (m : HostModel H) (channel : Channel) (bytes : List ℕ) (old new : H) (result : Result (Unit {0}) HostError) : Type 0 where
   pub said : OnOk result (Over m (Says channel bytes) old new)
   pub leads : Leads m (SaysPart channel bytes) old new
   pub nothing : result ≡ Err NoMemory → Leads m Stays old new
   pub count : m.faults old ≤ m.faults new
-  pub rose : result ≡ Err Fault → Stopped m old new
+  pub rose : result ≡ Err Fault → HaltedAtFault m old new
   pub spared : result ≢ Err Fault → m.faults new ≡ m.faults old
   pub refused : IsTrue m.tells
       → CountsRefusedSay channel (m.tally old).refused_says (m.tally new).refused_says result
@@ -142,7 +142,7 @@ untold_host faults = record {
   untold = λ _ _ _. refl;
   leaves_contents = λ _ honest. asked_of_none honest;
   leaves_said = λ _ _ _ is. absurd is;
-  counts_now = λ _ _ _ _ _ is. is;
-  counts_only_now = λ _ _ _ is. is;
-  counts_earlier = λ _ _ _ _ _ _ is. is;
+  includes_now = λ _ _ _ _ _ is. is;
+  includes_only_now = λ _ _ _ is. is;
+  includes_earlier = λ _ _ _ _ _ _ is. is;
 }

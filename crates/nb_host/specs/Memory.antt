@@ -12,15 +12,15 @@ use Rattle.nb_host.specs.Channels.{refused_on}
 use Rattle.nb_host.specs.Counts.{next_count}
 use Rattle.nb_host.specs.Crashes.{CrashModel}
 use Rattle.nb_host.specs.Disk.{Disk, Event, contents_on, crash_model_by, disk_after, syncs_in}
-use Rattle.nb_host.specs.DiskLaws.{contents_is_image, image_counts, counts_only_now, counts_earlier}
+use Rattle.nb_host.specs.DiskLaws.{contents_is_image, image_counts, includes_only_now, includes_earlier}
 use Rattle.nb_host.specs.Image.{Image}
-use Rattle.nb_host.specs.Meaning.{HostModel, Tally}
-use Rattle.nb_host.specs.Plan.{IsDueBy, burnt}
+use Rattle.nb_host.specs.Meaning.{HostModel, CallTally}
+use Rattle.nb_host.specs.Plan.{FailsNext, burnt}
 use Rattle.nb_host.specs.Record.{recorded}
 
 -- what each call did to the files and channels since the disk was made, the newest first
 abbrev pub events_in : MemoryDisk → List Event
-events_in disk = recorded disk.entries.items
+events_in disk = recorded disk.calls.items
 
 -- the disk that they made
 abbrev pub disk_in : MemoryDisk → Disk
@@ -66,7 +66,7 @@ abbrev pub syncs_of : MemoryHost → ℕ
 syncs_of host = syncs_in (events_of host)
 
 -- what the host counts beside its faults
-abbrev pub tally_of : MemoryHost → Tally
+abbrev pub tally_of : MemoryHost → CallTally
 tally_of host = record { refused_says = refused_of host; syncs = syncs_of host }
 
 -- a host that tells isn't one that tells nothing
@@ -86,10 +86,10 @@ meaning_of = record {
   untold = λ never _ _. tells_nothing never;
   leaves_contents = λ host _. contents_is_image (events_of host);
   leaves_said = λ _ _ _ is. is.said;
-  counts_now = λ host moment image _ _ is. image_counts (events_of host) moment image is;
-  counts_only_now = λ host image _ since. counts_only_now (events_of host) image since;
-  counts_earlier = λ host early late image _ less since.
-      counts_earlier (events_of host) early late image less since;
+  includes_now = λ host moment image _ _ is. image_counts (events_of host) moment image is;
+  includes_only_now = λ host image _ since. includes_only_now (events_of host) image since;
+  includes_earlier = λ host early late image _ less since.
+      includes_earlier (events_of host) early late image less since;
 }
 
 -- the numbers of the host calls that are set to fail, counted from 1 from when they were set on
@@ -106,7 +106,7 @@ fuse_of host = host.plan.fuse
 
 -- the next host call is set to fail
 abbrev pub IsDue : MemoryHost → Type 0
-IsDue host = IsDueBy (fuse_of host) (failing_of host) (calls_since_set host)
+IsDue host = FailsNext (fuse_of host) (failing_of host) (calls_since_set host)
 
 -- the fuse's first failing call has come
 abbrev pub IsBlown : MemoryHost → Type 0

@@ -30,11 +30,11 @@ fate_by Blown named = Nothing
 
 -- The next call fails: where its number is set to fail, counted from 1 from when the numbers were set on, and wherever
 -- the fuse lets none pass.
-abbrev pub IsDueBy : Fuse → List ℕ → ℕ → Type 0
-IsDueBy Unset failing since = Contains failing (since + 1)
-IsDueBy (Burning zero) failing since = Unit {0}
-IsDueBy (Burning (suc calls)) failing since = Contains failing (since + 1)
-IsDueBy Blown failing since = Unit {0}
+abbrev pub FailsNext : Fuse → List ℕ → ℕ → Type 0
+FailsNext Unset failing since = Contains failing (since + 1)
+FailsNext (Burning zero) failing since = Unit {0}
+FailsNext (Burning (suc calls)) failing since = Contains failing (since + 1)
+FailsNext Blown failing since = Unit {0}
 
 -- what a call answers that has done its part
 abbrev pub answer_of : Fate → Result (Unit {0}) HostError

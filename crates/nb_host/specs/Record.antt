@@ -4,12 +4,12 @@ use Rattle.nb_host.specs.Channels.{said_on}
 use Rattle.nb_host.specs.Disk.{Event, Wrote, Cut, Synced, Said, Placed, Crashed, disk_after}
 use Rattle.nb_host.specs.Files.{file_in}
 use Rattle.nb_host.specs.declared.channels.Channels.{Channels}
-use Rattle.nb_host.specs.declared.entry.Entry.{Entry}
-use Rattle.nb_host.specs.declared.entry.Entry.TheVariants.{Write, CutOff, Sync, Say, Place, Crash}
+use Rattle.nb_host.specs.declared.entry.CallRecord.{CallRecord}
+use Rattle.nb_host.specs.declared.entry.CallRecord.TheVariants.{Write, CutOff, Sync, Say, Place, Crash}
 use Rattle.nb_host.specs.declared.files.Files.{Files}
 use Rattle.nb_host.specs.declared.host.Channel.{Channel}
 
-abbrev pub event_of : Entry → Event
+abbrev pub event_of : CallRecord → Event
 event_of (Write file at bytes done) = Wrote file at bytes.items done
 event_of (CutOff file len) = Cut file len
 event_of Sync = Synced
@@ -18,8 +18,8 @@ event_of (Place file bytes) = Placed file bytes.items
 event_of (Crash outcome) = Crashed outcome
 
 -- what was recorded, the newest first, of entries with the oldest first
-abbrev pub recorded : List Entry → List Event
-recorded entries = map event_of (reverse entries)
+abbrev pub recorded : List CallRecord → List Event
+recorded calls = map event_of (reverse calls)
 
 -- The files and the channels are as the calls made them.
 pub record IsMadeBy (events : List Event) (files : Files) (channels : Channels) : Type 0 where

@@ -5,7 +5,7 @@ ghost use Rattle.nb_host.specs.Disk.{contents_on, Wrote, Cut, Synced, Said, Plac
 ghost use Rattle.nb_host.specs.Record.{recorded, IsMadeBy};
 
 use crate::channels::Channels;
-use crate::entry::Entry;
+use crate::entry::CallRecord;
 use crate::files::Files;
 use crate::{Channel, Outcome, PLACE_LIMIT};
 use nb_model::NoMemory;
@@ -19,8 +19,8 @@ pub struct MemoryDisk {
     files: Files,
     channels: Channels,
     /// The oldest first.
-    entries: Vec<Entry>,
-    ghost kept: { IsMadeBy (recorded entries.items) files channels },
+    calls: Vec<CallRecord>,
+    ghost kept: { IsMadeBy (recorded calls.items) files channels },
 }
 
 impl MemoryDisk {
@@ -34,7 +34,7 @@ impl MemoryDisk {
             alloc,
             files: Files::new(alloc),
             channels: Channels::new(alloc),
-            entries: Vec::new(alloc),
+            calls: Vec::new(alloc),
         }
     }
 
@@ -58,10 +58,10 @@ impl MemoryDisk {
         ensures err { OnErr result (events_in self.new ≡ events_in self.old) }
     {
         let all = bytes.to_vec(self.alloc)?;
-        self.entries.push(Entry::Place(number, all))?;
+        self.calls.push(CallRecord::Place(number, all))?;
         let answer = self.files.place(number, bytes);
         if answer.is_err() {
-            let _ = self.entries.pop();
+            let _ = self.calls.pop();
             return answer;
         }
         answer
@@ -75,10 +75,10 @@ impl MemoryDisk {
         ensures err { OnErr result (events_in self.new ≡ events_in self.old) }
     {
         let all = bytes.to_vec(self.alloc)?;
-        self.entries.push(Entry::Write(number, at, all, done))?;
+        self.calls.push(CallRecord::Write(number, at, all, done))?;
         let answer = self.files.write(number, at, bytes, done);
         if answer.is_err() {
-            let _ = self.entries.pop();
+            let _ = self.calls.pop();
             return answer;
         }
         answer
@@ -89,10 +89,10 @@ impl MemoryDisk {
         ensures ok { OnOk result (events_in self.new ≡ Cut number len ∷ events_in self.old) }
         ensures err { OnErr result (events_in self.new ≡ events_in self.old) }
     {
-        self.entries.push(Entry::CutOff(number, len))?;
+        self.calls.push(CallRecord::CutOff(number, len))?;
         let answer = self.files.cut(number, len);
         if answer.is_err() {
-            let _ = self.entries.pop();
+            let _ = self.calls.pop();
             return answer;
         }
         answer
@@ -103,7 +103,7 @@ impl MemoryDisk {
         ensures ok { OnOk result (events_in self.new ≡ Synced ∷ events_in self.old) }
         ensures err { OnErr result (events_in self.new ≡ events_in self.old) }
     {
-        self.entries.push(Entry::Sync)?;
+        self.calls.push(CallRecord::Sync)?;
         self.files.sync();
         Ok(())
     }
@@ -115,10 +115,10 @@ impl MemoryDisk {
         ensures err { OnErr result (events_in self.new ≡ events_in self.old) }
     {
         let all = bytes.to_vec(self.alloc)?;
-        self.entries.push(Entry::Say(channel, all, done))?;
+        self.calls.push(CallRecord::Say(channel, all, done))?;
         let answer = self.channels.say(channel, &bytes[..done]);
         if answer.is_err() {
-            let _ = self.entries.pop();
+            let _ = self.calls.pop();
             return answer;
         }
         answer
@@ -131,18 +131,18 @@ impl MemoryDisk {
     {
         match outcome {
             Outcome::Kept => {
-                self.entries.push(Entry::Crash(outcome))?;
+                self.calls.push(CallRecord::Crash(outcome))?;
                 self.files.sync();
                 Ok(())
             }
             Outcome::Lost => {
-                self.entries.push(Entry::Crash(outcome))?;
+                self.calls.push(CallRecord::Crash(outcome))?;
                 self.files.lose();
                 Ok(())
             }
             Outcome::Filled(filler) => {
                 self.files.prepare(filler)?;
-                self.entries.push(Entry::Crash(outcome))?;
+                self.calls.push(CallRecord::Crash(outcome))?;
                 self.files.fill();
                 Ok(())
             }

@@ -5,7 +5,7 @@ use crate::{Channel, Outcome};
 /// What a call did. Of a write and of a say it has all the bytes, and how many of them, the first ones, it
 /// got done.
 #[derive(Drop)]
-pub enum Entry {
+pub enum CallRecord {
     /// Bytes were written into a file at an offset, in bytes.
     Write(u64, u64, Vec<u8>, usize),
     /// A file was cut to a length, in bytes, where it was longer.

@@ -64,7 +64,7 @@ pub trait Host {
 
     ghost use Rattle.nb_host.specs.Crashes.{Stays};
     ghost use Rattle.nb_host.specs.Image.{IsOverwritten, IsCut, IsTorn, IsPartlyCut, FileBecomes, readable};
-    ghost use Rattle.nb_host.specs.Meaning.{HostModel, IsDurable, Leads, Over, Ran, RanSyncing, Spoke};
+    ghost use Rattle.nb_host.specs.Meaning.{HostModel, IsDurable, Leads, Over, Ran, RanSyncing, RanSaying};
 
     /// The file's length in bytes: 0 for one that isn't there.
     fn len(&mut self, file: u64) -> Result<u64, HostError>
@@ -113,5 +113,5 @@ pub trait Host {
 
     /// Says the bytes on the channel. After Fault the first of them may have been said.
     fn say(&mut self, channel: Channel, bytes: &[u8]) -> Result<(), HostError>
-        ensures spoke { Spoke meaning channel bytes.now self.old self.new result };
+        ensures spoke { RanSaying meaning channel bytes.now self.old self.new result };
 }

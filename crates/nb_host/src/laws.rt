@@ -3,8 +3,8 @@
 
 ghost use Rattle.std.specs.Prelude.{◌≡◌, ◌⊎◌, ◌↔◌, ℕ, ◌+◌, ◌^◌, List, ◌++◌, Contains, IsTrue};
 ghost use Rattle.nb_host.specs.Crashes.{IsStretch, ImagesFollow, ChangesOnly, EverySince, AgreesOutside, Stays};
-ghost use Rattle.nb_host.specs.Image.{Image, SaysPart, Spares};
-ghost use Rattle.nb_host.specs.Meaning.{IsDurable, IsDurableFile, StaysLeft, Leads};
+ghost use Rattle.nb_host.specs.Image.{Image, SaysPart, KeepsFile};
+ghost use Rattle.nb_host.specs.Meaning.{IsDurable, IsDurableFile, FileStays, Leads};
 ghost use Rattle.nb_host.specs.declared.host.Channel.{Channel};
 
 use crate::host::{Host, LAST_FILE, PLACE_LIMIT};
@@ -60,17 +60,17 @@ pub fn law_durable_file<H: Host>()
         → (H.meaning.contents new).file file ≡ (H.meaning.contents old).file file) }
 {}
 
-/// A file that is as its last call left it (`IsLeft`, whatever that says) stays so through calls that spare
+/// A file that is as its last call left it (`FileIs`, whatever that says) stays so through calls that spare
 /// it: those on other files, a sync, and a say.
-pub fn law_left<H: Host>()
-    ensures stays { (file : ℕ) (old new : H) → Leads H.meaning (Spares file) old new
-        → StaysLeft H.meaning file old new }
+pub fn law_file_stays<H: Host>()
+    ensures stays { (file : ℕ) (old new : H) → Leads H.meaning (KeepsFile file) old new
+        → FileStays H.meaning file old new }
     ensures others { (files : List ℕ) (file : ℕ) (old new : H) → (Contains files file → ⊥)
-        → Leads H.meaning (AgreesOutside files) old new → Leads H.meaning (Spares file) old new }
+        → Leads H.meaning (AgreesOutside files) old new → Leads H.meaning (KeepsFile file) old new }
     ensures synced { (file : ℕ) (old new : H) → Leads H.meaning Stays old new
-        → Leads H.meaning (Spares file) old new }
+        → Leads H.meaning (KeepsFile file) old new }
     ensures said { (channel : Channel) (bytes : List ℕ) (file : ℕ) (old new : H)
-        → Leads H.meaning (SaysPart channel bytes) old new → Leads H.meaning (Spares file) old new }
+        → Leads H.meaning (SaysPart channel bytes) old new → Leads H.meaning (KeepsFile file) old new }
 {}
 
 /// What an honest host's files hold is one of the images that a crash may leave.

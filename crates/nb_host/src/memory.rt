@@ -7,7 +7,7 @@ ghost use Rattle.nb_host.specs.Disk.{Wrote, Cut, Synced, Said, Placed, Crashed, 
 ghost use Rattle.nb_host.specs.Faults.{CountsFault};
 ghost use Rattle.nb_host.specs.Plan.{part_by};
 ghost use Rattle.nb_host.specs.Image.{IsOverwritten, IsTorn, IsCut, IsPartlyCut, FileBecomes, Says, readable};
-ghost use Rattle.nb_host.specs.Meaning.{IsDurable, IsDurableFile, Leads, Ran, RanSyncing, Spoke};
+ghost use Rattle.nb_host.specs.Meaning.{IsDurable, IsDurableFile, Leads, Ran, RanSyncing, RanSaying};
 ghost use Rattle.nb_host.specs.declared.fuse.Fuse.TheVariants.{Unset, Burning};
 ghost use Rattle.nb_host.specs.declared.host.HostError.TheVariants.{Fault};
 ghost use Rattle.nb_host.specs.declared.host.Channel.{Channel};
@@ -315,7 +315,7 @@ impl Host for MemoryHost {
 
     fn say(&mut self, channel: Channel, bytes: &[u8]) -> Result<(), HostError>
         ensures said { OnOk result (Says channel bytes.now (contents_of self.old) (contents_of self.new)) }
-        ensures spoke { Spoke meaning_of channel bytes.now self.old self.new result }
+        ensures spoke { RanSaying meaning_of channel bytes.now self.old self.new result }
         ensures ok { OnOk result
             (events_of self.new ≡ Said channel bytes.now (length bytes.now) ∷ events_of self.old) }
         ensures half { result ≡ Err Fault → (IsBlown self.old → ⊥)

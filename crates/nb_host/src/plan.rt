@@ -3,7 +3,7 @@
 ghost use Rattle.std.specs.Prelude.{◌≡◌, ◌+◌, ◌↔◌, ◌||◌, [], true, false, Contains, IsTrue, OnOk, OnErr};
 ghost use Rattle.nb_host.specs.Counts.{next_count};
 ghost use Rattle.nb_host.specs.Faults.{CountsFault};
-ghost use Rattle.nb_host.specs.Plan.{burnt, IsDueBy, answer_of, fails, faults_after};
+ghost use Rattle.nb_host.specs.Plan.{burnt, FailsNext, answer_of, fails, faults_after};
 ghost use Rattle.nb_host.specs.declared.fate.Fate.TheVariants.{Passes, Nothing};
 ghost use Rattle.nb_host.specs.declared.fuse.Fuse.TheVariants.{Unset, Burning, Blown};
 
@@ -102,7 +102,7 @@ impl Plan {
 
     /// Counts a call that begins, and says what it does.
     pub fn begin(&mut self) -> Fate
-        ensures due { (result ≡ Passes → ⊥) ↔ IsDueBy self.old.fuse self.old.failing.items self.old.since }
+        ensures due { (result ≡ Passes → ⊥) ↔ FailsNext self.old.fuse self.old.failing.items self.old.since }
         ensures nothing { result ≡ Nothing ↔ self.old.fuse ≡ Blown }
         ensures counts { self.new ≡ record self.old {
           since = next_count self.old.since;

@@ -11,7 +11,7 @@ use Rattle.nb_journal.specs.Form.{Log, IsStarted, IsDamagedAt, entry_bytes, with
 use Rattle.nb_journal.specs.Offsets.{offset_of, page_end}
 use Rattle.nb_journal.specs.Reading.{HoldsPage, IsReadTo, FindsRest}
 use Rattle.nb_journal.proofs.Gates.{begins_more, lawful_more, progress-with_entry}
-use Rattle.nb_journal.proofs.Texts.{length-text, length-with_entry, length-entry, text_behind}
+use Rattle.nb_journal.proofs.Texts.{length-journal_bytes, length-with_entry, length-entry, text_behind}
 
 -- the bytes of entry n, cut out of the page that holds it
 pub slot_is : (n : ℕ) {file page : List ℕ} → HoldsPage n file page → (i : ℕ) → i < 32
@@ -91,7 +91,7 @@ read_bad n file slot counters offset is started read page long at open' none her
                 (ext_get_or 0 slot (entry_bytes entry) (long ∙ sym (length-entry entry))
                 (λ i within. at i (omega arith)
                 ∙ begins.each (offset_of n + i)
-                (omega (arith, length-text (with_entry log entry), length-with_entry log entry))
+                (omega (arith, length-journal_bytes (with_entry log entry), length-with_entry log entry))
                 ∙ text_behind log entry n i count));
           });
         },

@@ -4,11 +4,11 @@ use Rattle.std.proofs.lemmas.Bool.{cases_eq, cases_lt}
 use Rattle.nb_host.specs.Image.{IsTorn}
 use Rattle.nb_journal.specs.declared.entry.Entry.{Entry}
 use Rattle.nb_journal.specs.Entries.{Progress, IsNextEntry, AreLawful, progress_after, after_all}
-use Rattle.nb_journal.specs.Form.{Log, IsLawful, IsCleanJournal, entry_bytes, text, with_entry, progress_of, begun}
+use Rattle.nb_journal.specs.Form.{Log, IsLawful, IsCleanJournal, entry_bytes, journal_bytes, with_entry, progress_of, initial_progress}
 use Rattle.nb_journal.specs.Images.{HasBegunPage, IsEntryTorn}
 use Rattle.nb_journal.specs.Laying.{KeepsCommitted, IsEntryWritten}
 use Rattle.nb_journal.specs.Offsets.{offset_of, page_end, BeginsWith}
-use Rattle.nb_journal.proofs.Texts.{length-text, length-with_entry, text_before, text_behind, entry_gate_is}
+use Rattle.nb_journal.proofs.Texts.{length-journal_bytes, length-with_entry, text_before, text_behind, entry_gate_is}
 
 pub keeps_itself : (n : ℕ) (file : List ℕ) → KeepsCommitted n file file
 keeps_itself n file = record {
@@ -93,7 +93,7 @@ kept_journal log keeps clean =
     record {
       journal = record {
         lawful = was.lawful;
-        begins = kept_begins keeps (omega (arith, length-text log)) was.begins;
+        begins = kept_begins keeps (omega (arith, length-journal_bytes log)) was.begins;
         pages = omega (arith, was.pages, keeps.no_shorter);
         shut = kept_tail n n keeps was.pages (omega arith) (omega arith) was.shut;
       };
@@ -121,7 +121,7 @@ gate_shut log {new = new} clean torn shut =
     record {
       journal = record {
         lawful = was.lawful;
-        begins = torn_keeps n torn (omega (arith, length-text log)) was.begins;
+        begins = torn_keeps n torn (omega (arith, length-journal_bytes log)) was.begins;
         pages = omega (arith, was.pages, torn.no_shorter);
         shut = shut;
       };
@@ -150,31 +150,31 @@ lawful_more log entry lawful next = record {
   count = lawful.count;
   time = lawful.time;
   gone = lawful.gone;
-  entries = lawful-push log.count log.entries (begun log) entry lawful.entries next;
+  entries = lawful-push log.count log.entries (initial_progress log) entry lawful.entries next;
 }
 
 pub progress-with_entry : (log : Log) (entry : Entry) → progress_of (with_entry log entry) ≡ progress_after entry (progress_of log)
-progress-with_entry log entry = after_all-push log.entries (begun log) entry
+progress-with_entry log entry = after_all-push log.entries (initial_progress log) entry
 
 -- a file that begins with the text, and has the entry behind it, begins with the text of both
-pub begins_more : (log : Log) (entry : Entry) (file : List ℕ) → BeginsWith (text log) file
+pub begins_more : (log : Log) (entry : Entry) (file : List ℕ) → BeginsWith (journal_bytes log) file
     → offset_of (length log.entries) + 32 ≤ length file
     → ((i : ℕ) → i < 32 → slice_index file (offset_of (length log.entries) + i) ≡ slice_index (entry_bytes entry) i)
-    → BeginsWith (text (with_entry log entry)) file
+    → BeginsWith (journal_bytes (with_entry log entry)) file
 begins_more log entry file begins whole slot =
     let n = length log.entries in
-    let long : length (text (with_entry log entry)) ≡ offset_of n + 32 =
-    omega (arith, length-text (with_entry log entry), length-with_entry log entry) in
+    let long : length (journal_bytes (with_entry log entry)) ≡ offset_of n + 32 =
+    omega (arith, length-journal_bytes (with_entry log entry), length-with_entry log entry) in
     record {
       whole = omega arith;
       each = λ i within. elim (cases_lt i (offset_of n)) [
         | inl low ↦
-            begins.each i (omega (arith, length-text log)) ∙ sym (text_before log entry i (omega (arith, length-text log)))
+            begins.each i (omega (arith, length-journal_bytes log)) ∙ sym (text_before log entry i (omega (arith, length-journal_bytes log)))
         | inr high ↦
             let k = i - offset_of n in
             let at : i ≡ offset_of n + k = omega arith in
             ap (λ (p : ℕ). slice_index file p) at ∙ slot k (omega arith) ∙ sym (text_behind log entry n k refl)
-            ∙ ap (λ (p : ℕ). slice_index (text (with_entry log entry)) p) (sym at)
+            ∙ ap (λ (p : ℕ). slice_index (journal_bytes (with_entry log entry)) p) (sym at)
       ];
     }
 
@@ -234,7 +234,7 @@ gate_open log entry {new = new} clean laid next torn open' =
       record {
         journal = record {
           lawful = lawful_more log entry was.lawful next;
-          begins = begins_more log entry new (torn_keeps n torn (omega (arith, length-text log)) was.begins)
+          begins = begins_more log entry new (torn_keeps n torn (omega (arith, length-journal_bytes log)) was.begins)
               (omega (arith, was.pages, torn.no_shorter)) (torn_laid n entry torn was.pages laid open');
           pages = subst (λ (k : ℕ). offset_of (page_end k) ≤ length new) (sym more)
               (next_within n new (omega (arith, was.pages, torn.no_shorter)) page);

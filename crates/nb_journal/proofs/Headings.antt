@@ -8,11 +8,11 @@ use Rattle.nb_model.specs.declared.edge.Edge.{Edge}
 use Rattle.nb_model.specs.declared.edge.Edge.TheVariants.{Open, Wrap}
 use Rattle.nb_journal.specs.declared.form.Heading.{Heading}
 use Rattle.nb_journal.specs.Counters.{counters_of, log_under, heading_of}
-use Rattle.nb_journal.specs.Form.{Log, IsLawful, header, text, edge_number}
+use Rattle.nb_journal.specs.Form.{Log, IsLawful, header, journal_bytes, edge_code}
 use Rattle.nb_journal.specs.Offsets.{BeginsWith}
 use Rattle.nb_journal.specs.Reading.{IsReadTo}
 use Rattle.nb_journal.proofs.Spelled.{same_u64}
-use Rattle.nb_journal.proofs.Texts.{length-header, length-text}
+use Rattle.nb_journal.proofs.Texts.{length-header, length-journal_bytes}
 
 -- a number that was read at an offset of the page
 pub record StandsAt (page : List ℕ) (at n : ℕ) : Type 0 where
@@ -31,7 +31,7 @@ pub record HasNumbers (page : List ℕ) (log : Log) : Type 0 where
   pub count : take 8 (drop 56 page) ≡ to_le_bytes w64 log.count
   pub time : take 8 (drop 64 page) ≡ to_le_bytes w64 log.begin_time
   pub gone : take 8 (drop 72 page) ≡ to_le_bytes w64 log.begin_gone
-  pub edge : take 8 (drop 80 page) ≡ to_le_bytes w64 (edge_number log.params.edge)
+  pub edge : take 8 (drop 80 page) ≡ to_le_bytes w64 (edge_code log.params.edge)
 
 pub header_has : (log : Log) → HasNumbers (header 83 log) log
 unfolding header
@@ -52,11 +52,11 @@ header_has log = record {
 number_is : {page : List ℕ} {at n m : ℕ} → StandsAt page at n → m < 2 ^ 64 → take 8 (drop at page) ≡ to_le_bytes w64 m → n ≡ m
 number_is {n = n} {m = m} stands small has = same_u64 n m stands.small small (sym stands.bytes ∙ has)
 
-pub edge_small : (edge : Edge) → edge_number edge < 2 ^ 64
+pub edge_small : (edge : Edge) → edge_code edge < 2 ^ 64
 edge_small Open = omega arith
 edge_small Wrap = omega arith
 
-edge_is : (edge read : Edge) (number : ℕ) → number ≡ edge_number edge → (number ≡ 0 → read ≡ Open) → (number ≡ 1 → read ≡ Wrap) → read ≡ edge
+edge_is : (edge read : Edge) (number : ℕ) → number ≡ edge_code edge → (number ≡ 0 → read ≡ Open) → (number ≡ 1 → read ≡ Wrap) → read ≡ edge
 edge_is Open read number is open' wrap = open' is
 edge_is Wrap read number is open' wrap = wrap is
 
@@ -126,24 +126,24 @@ page_bytes file later page {got = got} same whole read i within =
     ∙ ap (λ (w : List ℕ). slice_index w (0 + i)) same
     ∙ ap (λ (k : ℕ). slice_index file k) (omega arith)
 
-pub text_header : (log : Log) (i : ℕ) → i < 4096 → slice_index (text log) i ≡ slice_index (header 83 log) i
+pub text_header : (log : Log) (i : ℕ) → i < 4096 → slice_index (journal_bytes log) i ≡ slice_index (header 83 log) i
 text_header log i within = get_or_append_left (header 83 log) _ 0 i (omega (arith, length-header 83 log))
 
 -- a page whose file begins with the text of a log is its header
 pub page_header : (log : Log) (file page : List ℕ) → length page ≡ 4096 → ((i : ℕ) → i < 4096 → slice_index page i ≡ slice_index file i)
-    → BeginsWith (text log) file → page ≡ header 83 log
+    → BeginsWith (journal_bytes log) file → page ≡ header 83 log
 page_header log file page long same begins =
     ext_get_or 0 page (header 83 log) (long ∙ sym (length-header 83 log))
     (λ i within.
     let low : i < 4096 = omega arith in
-    same i low ∙ begins.each i (omega (arith, length-text log)) ∙ text_header log i low)
+    same i low ∙ begins.each i (omega (arith, length-journal_bytes log)) ∙ text_header log i low)
 
 -- and the other way round, where the log has no entries
 pub page_begins : (heading : Heading) (file page : List ℕ) → 4096 < length file → ((i : ℕ) → i < 4096 → slice_index page i ≡ slice_index file i)
     → IsLawful (log_under heading) → page ≡ header 83 (log_under heading) → IsReadTo file (counters_of (log_under heading))
 page_begins heading file page long same lawful is =
     let log = log_under heading in
-    let short : length (text log) ≡ 4096 = length-text log in
+    let short : length (journal_bytes log) ≡ 4096 = length-journal_bytes log in
     record {
       log = log;
       lawful = lawful;
@@ -156,11 +156,11 @@ page_begins heading file page long same lawful is =
       answers = refl;
     }
 
-edge_open : (edge : Edge) → edge_number edge ≡ 0 → edge ≡ Open
+edge_open : (edge : Edge) → edge_code edge ≡ 0 → edge ≡ Open
 edge_open Open is = refl
 edge_open Wrap is = absurd (omega arith)
 
-edge_wrap : (edge : Edge) → edge_number edge ≡ 1 → edge ≡ Wrap
+edge_wrap : (edge : Edge) → edge_code edge ≡ 1 → edge ≡ Wrap
 edge_wrap Open is = absurd (omega arith)
 edge_wrap Wrap is = refl
 

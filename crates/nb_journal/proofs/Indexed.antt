@@ -12,13 +12,13 @@ use Rattle.nb_host.proofs.Callers.{length-readable, slice_index-readable}
 use Rattle.nb_journal.specs.declared.entry.Entry.{Entry}
 use Rattle.nb_journal.specs.declared.entry.Entry.TheVariants.{Leg, Tick}
 use Rattle.nb_journal.specs.Entries.{Progress, IsNextEntry, AreLawful, progress_after, toward}
-use Rattle.nb_journal.specs.Form.{Log, IsLawful, IsJournal, header, text, entry_bytes, begun}
+use Rattle.nb_journal.specs.Form.{Log, IsLawful, IsJournal, header, journal_bytes, entry_bytes, initial_progress}
 use Rattle.nb_journal.specs.Offsets.{offset_of, BeginsWith}
 use Rattle.nb_journal.specs.Reading.{HasFields}
-use Rattle.nb_journal.proofs.Texts.{length-header, length-entry, length-entries, length-text}
+use Rattle.nb_journal.proofs.Texts.{length-header, length-entry, length-entries, length-journal_bytes}
 
 -- its bytes in the file
-pub entry_slot : (log : Log) (index : ℕ) (file : List ℕ) → BeginsWith (text log) file → index < length log.entries → (j : ℕ) → j < 32
+pub entry_slot : (log : Log) (index : ℕ) (file : List ℕ) → BeginsWith (journal_bytes log) file → index < length log.entries → (j : ℕ) → j < 32
     → slice_index file (offset_of index + j) ≡ slice_index (entry_bytes (get_or log.entries index (Leg 0))) j
 entry_slot log index file begins within j small =
     let entry = get_or log.entries index (Leg 0) in
@@ -26,7 +26,7 @@ entry_slot log index file begins within j small =
     let front : length (flat_map entry_bytes (take index log.entries)) ≡ 32 * index =
     omega (arith, length-entries (take index log.entries), length-take index log.entries) in
     let at : offset_of index + j - 4096 ≡ length (flat_map entry_bytes (take index log.entries)) + j = omega (arith, front) in
-    begins.each (offset_of index + j) (omega (arith, length-text log))
+    begins.each (offset_of index + j) (omega (arith, length-journal_bytes log))
     ∙ get_or-append_right (header 83 log) flat 4096 (offset_of index + j) 0 (length-header 83 log) (omega arith)
     ∙ ap (λ (k : ℕ). slice_index flat k) at
     ∙ get_or-flat_map entry_bytes log.entries index j (Leg 0) 0 within (omega (arith, length-entry entry))
@@ -59,14 +59,14 @@ lawful_has count s (entry ∷ entries) (suc index) few near lawful within =
 
 pub entry_has : (log : Log) (index : ℕ) → IsLawful log → index < length log.entries → HasFields (get_or log.entries index (Leg 0))
 entry_has log index lawful within =
-    lawful_has log.count (begun log) log.entries index lawful.count (omega arith) lawful.entries within
+    lawful_has log.count (initial_progress log) log.entries index lawful.count (omega arith) lawful.entries within
 
 -- Reading it.
 
 pub slot_whole : (log : Log) (index : ℕ) (file : List ℕ) {got : ℕ} → IsJournal log file → index < length log.entries
     → got ≡ length (readable (offset_of index) 32 file) → got ≡ 32
 slot_whole log index file journal within got =
-    omega (arith, got, length-readable (offset_of index) 32 file, journal.begins.whole, length-text log)
+    omega (arith, got, length-readable (offset_of index) 32 file, journal.begins.whole, length-journal_bytes log)
 
 pub slot_bytes : (log : Log) (index : ℕ) (file bytes : List ℕ) {got : ℕ} → IsJournal log file → index < length log.entries
     → length bytes ≡ 32 → got ≡ length (readable (offset_of index) 32 file) → take got bytes ≡ readable (offset_of index) 32 file

@@ -6,10 +6,10 @@ use Rattle.nb_host.specs.Crashes.{ImagesFollow, AgreesOutside, Stays}
 use Rattle.nb_host.specs.Image.{Image, FileBecomes, IsTorn, IsPartlyCut, IsOverwritten, overwritten}
 use Rattle.nb_host.specs.Meaning.{HostModel, Leads, IsDurable, IsDurableFile}
 use Rattle.nb_host.proofs.Callers.{goes_on, becomes_agrees, agrees_itself, overwritten-at_end, overwritten-within, overwritten_is_torn, stays_contents}
-use Rattle.nb_journal.specs.Form.{Log, header, text, IsLawful, IsFresh, IsCleanJournal}
+use Rattle.nb_journal.specs.Form.{Log, header, journal_bytes, IsLawful, IsFresh, IsCleanJournal}
 use Rattle.nb_journal.specs.Images.{prepared, IsFreshNow, IsPrepared, StaysFresh, Starts}
 use Rattle.nb_journal.specs.Offsets.{offset_of}
-use Rattle.nb_journal.proofs.Texts.{length-header, length-text}
+use Rattle.nb_journal.proofs.Texts.{length-header, length-journal_bytes}
 use Rattle.nb_journal.proofs.Laid.{written_byte, written_whole, zeros_are}
 use Rattle.nb_journal.proofs.Steps.{knowing, after_sync, agrees_then}
 
@@ -80,7 +80,7 @@ gate_started log {old = old} {new = new} lawful none laid torn open' =
     λ i some within. torn.above i (omega arith) some ∙ ap (λ (w : List ℕ). slice_index w i) laid in
     let tail : (i : ℕ) → i < 128 → slice_index new (offset_of i) ≢ 71 =
     λ i within bad. absurd (omega (arith, bad, as_laid (offset_of i) (omega arith) (omega arith), prepared_zero log (32 * i) (omega arith))) in
-    let short : length (text log) ≡ 4096 = omega (arith, length-text log) in
+    let short : length (journal_bytes log) ≡ 4096 = omega (arith, length-journal_bytes log) in
     let long_new : 8192 ≤ length new = omega (arith, torn.no_shorter) in
     record {
       journal = record {
@@ -89,7 +89,7 @@ gate_started log {old = old} {new = new} lawful none laid torn open' =
           whole = omega arith;
           each = λ i within.
               let low : i < 4096 = omega arith in
-              let there : slice_index (text log) i ≡ slice_index (header 83 log) i =
+              let there : slice_index (journal_bytes log) i ≡ slice_index (header 83 log) i =
               get_or_append_left (header 83 log) _ 0 i (omega (arith, length-header 83 log)) in
               elim (cases_eq i 0) [
                 | inl first ↦

@@ -12,7 +12,7 @@ use Rattle.nb_journal.specs.declared.entry.Entry.TheVariants.{Leg, Tick}
 use Rattle.nb_journal.specs.declared.form.Heading.{Heading}
 use Rattle.nb_journal.specs.Counters.{Counters, counters_of, counters_after, log_under, heading_of}
 use Rattle.nb_journal.specs.Entries.{IsNextEntry}
-use Rattle.nb_journal.specs.Form.{Log, IsLawful, IsFresh, IsJournal, IsStarted, IsDamagedAt, HasNoHeader, header, entry_bytes, edge_number, with_entry, progress_of}
+use Rattle.nb_journal.specs.Form.{Log, IsLawful, IsFresh, IsJournal, IsStarted, IsDamagedAt, HasNoHeader, header, entry_bytes, edge_code, with_entry, progress_of}
 use Rattle.nb_journal.specs.Offsets.{offset_of, page_end}
 use Rattle.nb_journal.specs.Reading.{HasFields, IsReadTo}
 use Rattle.nb_journal.proofs.Decided.{both, equal_lists, lawful_heading, next_one}
@@ -20,7 +20,7 @@ use Rattle.nb_journal.proofs.Found.{read_more, read_all, read_bad, read_short}
 use Rattle.nb_journal.proofs.Gates.{lawful_more}
 use Rattle.nb_journal.proofs.Headings.{HasNumbers, header_has, header_under, edge_small, page_header, page_begins}
 use Rattle.nb_journal.proofs.Indexed.{entry_has}
-use Rattle.nb_journal.proofs.Texts.{length-text, length-with_entry}
+use Rattle.nb_journal.proofs.Texts.{length-journal_bytes, length-with_entry}
 
 -- the number of the eight bytes from this offset on
 number_at : List ℕ → ℕ → ℕ
@@ -38,7 +38,7 @@ edge_of number = if number == 0 then Open else Wrap
 version_of : ℕ → ℕ
 version_of digit = if digit == 49 then 1 else 2
 
-edge_is : (edge : Edge) (number : ℕ) → number ≡ edge_number edge → edge_of number ≡ edge
+edge_is : (edge : Edge) (number : ℕ) → number ≡ edge_code edge → edge_of number ≡ edge
 unfolding edge_of
 edge_is Open number is = rw is refl
 edge_is Wrap number is = rw is refl
@@ -84,7 +84,7 @@ heading_is log page lawful is =
     let e4 = number_is page 32 log.params.soft (omega (arith, range.soft)) has.soft in
     let e5 = number_is page 40 log.params.leaf (omega (arith, range.leaf)) has.leaf in
     let e6 = number_is page 48 log.params.every (omega (arith, range.every)) has.every in
-    let e7 = edge_is log.params.edge (number_at page 80) (number_is page 80 (edge_number log.params.edge) (edge_small log.params.edge) has.edge) in
+    let e7 = edge_is log.params.edge (number_at page 80) (number_is page 80 (edge_code log.params.edge) (edge_small log.params.edge) has.edge) in
     let e8 = number_is page 56 log.count (omega (arith, lawful.count)) has.count in
     let e9 = number_is page 64 log.begin_time lawful.time has.time in
     let e10 = number_is page 72 log.begin_gone (omega (arith, lawful.count, lawful.gone)) has.gone in
@@ -197,7 +197,7 @@ rest : (left : ℕ) (file : List ℕ) → IsStarted file → Goes left file
 rest zero file started counters read reach few =
     let log = read.log in
     let n_is : counters.entries ≡ length log.entries = ap (λ (c : Counters). c.entries) read.answers in
-    absurd (omega (arith, few, n_is, read.begins.whole, length-text log))
+    absurd (omega (arith, few, n_is, read.begins.whole, length-journal_bytes log))
 rest (suc left) file started counters read reach few =
     let n = counters.entries in
     let page = λ (whole : offset_of (page_end n) ≤ length file).

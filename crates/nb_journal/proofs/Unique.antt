@@ -7,33 +7,33 @@ use Rattle.nb_journal.specs.declared.entry.Entry.TheVariants.{Leg}
 use Rattle.nb_journal.specs.declared.form.Heading.{Heading}
 use Rattle.nb_journal.specs.Counters.{heading_of}
 use Rattle.nb_journal.specs.Entries.{Progress, IsNextEntry, AreLawful, progress_after, after_all}
-use Rattle.nb_journal.specs.Form.{Log, IsLawful, IsFresh, IsJournal, IsDamagedAt, StopsBehind, header, text, entry_bytes, begun, progress_of}
+use Rattle.nb_journal.specs.Form.{Log, IsLawful, IsFresh, IsJournal, IsDamagedAt, StopsBehind, header, journal_bytes, entry_bytes, initial_progress, progress_of}
 use Rattle.nb_journal.specs.Offsets.{offset_of, page_end, BeginsWith}
 use Rattle.nb_journal.proofs.Gates.{begins_more}
 use Rattle.nb_journal.proofs.Headings.{same_heading, text_header}
 use Rattle.nb_journal.proofs.Indexed.{entry_slot, entry_has}
 use Rattle.nb_journal.proofs.Spelled.{same_entry}
 use Rattle.nb_journal.proofs.Starting.{header_open}
-use Rattle.nb_journal.proofs.Texts.{length-header, length-text, length-entry, entry_gate_is}
+use Rattle.nb_journal.proofs.Texts.{length-header, length-journal_bytes, length-entry, entry_gate_is}
 
 abbrev nth : Log → ℕ → Entry
 nth log i = get_or log.entries i (Leg 0)
 
 -- Two logs whose texts begin one file have one heading.
-one_header : (a b : Log) (file : List ℕ) → BeginsWith (text a) file → BeginsWith (text b) file → header 83 a ≡ header 83 b
+one_header : (a b : Log) (file : List ℕ) → BeginsWith (journal_bytes a) file → BeginsWith (journal_bytes b) file → header 83 a ≡ header 83 b
 one_header a b file begins_a begins_b =
     ext_get_or 0 (header 83 a) (header 83 b) (length-header 83 a ∙ sym (length-header 83 b))
     (λ i within.
     let low : i < 4096 = omega (arith, length-header 83 a) in
-    sym (text_header a i low) ∙ sym (begins_a.each i (omega (arith, length-text a)))
-    ∙ begins_b.each i (omega (arith, length-text b)) ∙ text_header b i low)
+    sym (text_header a i low) ∙ sym (begins_a.each i (omega (arith, length-journal_bytes a)))
+    ∙ begins_b.each i (omega (arith, length-journal_bytes b)) ∙ text_header b i low)
 
-one_heading : (a b : Log) (file : List ℕ) → IsLawful a → IsLawful b → BeginsWith (text a) file → BeginsWith (text b) file
+one_heading : (a b : Log) (file : List ℕ) → IsLawful a → IsLawful b → BeginsWith (journal_bytes a) file → BeginsWith (journal_bytes b) file
     → heading_of b ≡ heading_of a
 one_heading a b file lawful_a lawful_b begins_a begins_b = same_heading a b lawful_a lawful_b (one_header a b file begins_a begins_b)
 
 -- They have the same entries, as far as both have any.
-one_entry : (a b : Log) (file : List ℕ) → IsLawful a → IsLawful b → BeginsWith (text a) file → BeginsWith (text b) file
+one_entry : (a b : Log) (file : List ℕ) → IsLawful a → IsLawful b → BeginsWith (journal_bytes a) file → BeginsWith (journal_bytes b) file
     → (i : ℕ) → i < length a.entries → i < length b.entries → nth a i ≡ nth b i
 one_entry a b file lawful_a lawful_b begins_a begins_b i in_a in_b =
     same_entry (nth a i) (nth b i) (entry_has a i lawful_a in_a) (entry_has b i lawful_b in_b)
@@ -42,7 +42,7 @@ one_entry a b file lawful_a lawful_b begins_a begins_b i in_a in_b =
     let low : j < 32 = omega (arith, length-entry (nth a i)) in
     sym (entry_slot a i file begins_a in_a j low) ∙ entry_slot b i file begins_b in_b j low))
 
-front_of : (a b : Log) (file : List ℕ) → IsLawful a → IsLawful b → BeginsWith (text a) file → BeginsWith (text b) file
+front_of : (a b : Log) (file : List ℕ) → IsLawful a → IsLawful b → BeginsWith (journal_bytes a) file → BeginsWith (journal_bytes b) file
     → length a.entries ≤ length b.entries → take (length a.entries) b.entries ≡ a.entries
 front_of a b file lawful_a lawful_b begins_a begins_b less =
     let n = length a.entries in
@@ -54,7 +54,7 @@ front_of a b file lawful_a lawful_b begins_a begins_b less =
     ∙ sym (one_entry a b file lawful_a lawful_b begins_a begins_b i low (omega arith)))
 
 -- the gate of an entry of the text is open
-gate_of : (log : Log) (file : List ℕ) (i : ℕ) → BeginsWith (text log) file → i < length log.entries → slice_index file (offset_of i) ≡ 71
+gate_of : (log : Log) (file : List ℕ) (i : ℕ) → BeginsWith (journal_bytes log) file → i < length log.entries → slice_index file (offset_of i) ≡ 71
 gate_of log file i begins within =
     let there : offset_of i ≡ offset_of i + 0 = omega arith in
     ap (λ (k : ℕ). slice_index file k) there ∙ entry_slot log i file begins within 0 (omega arith) ∙ entry_gate_is (nth log i)
@@ -104,27 +104,27 @@ lawful_at count s (entry ∷ entries) zero lawful within = lawful.0
 lawful_at count s (entry ∷ entries) (suc i) lawful within = lawful_at count (progress_after entry s) entries i lawful.1 (omega arith)
 
 -- The entry that a longer text has there is a lawful next one of the shorter.
-next_of : (a b : Log) (file : List ℕ) → IsLawful a → IsLawful b → BeginsWith (text a) file → BeginsWith (text b) file
+next_of : (a b : Log) (file : List ℕ) → IsLawful a → IsLawful b → BeginsWith (journal_bytes a) file → BeginsWith (journal_bytes b) file
     → length a.entries < length b.entries → IsNextEntry a.count (progress_of a) (nth b (length a.entries))
 next_of a b file lawful_a lawful_b begins_a begins_b less =
     let n = length a.entries in
     let heading = one_heading a b file lawful_a lawful_b begins_a begins_b in
     let front = front_of a b file lawful_a lawful_b begins_a begins_b (omega arith) in
-    let start : begun b ≡ begun a =
+    let start : initial_progress b ≡ initial_progress a =
     ap (λ (h : Heading). record { ticks = 0; time = h.time; target = h.time; gone = h.gone }) heading in
-    let next : IsNextEntry b.count (after_all (take n b.entries) (begun b)) (nth b n) =
-    lawful_at b.count (begun b) b.entries n lawful_b.entries less in
+    let next : IsNextEntry b.count (after_all (take n b.entries) (initial_progress b)) (nth b n) =
+    lawful_at b.count (initial_progress b) b.entries n lawful_b.entries less in
     subst (λ (c : ℕ). IsNextEntry c (progress_of a) (nth b n)) (ap (λ (h : Heading). h.count) heading)
     (subst (λ (s : Progress). IsNextEntry b.count (after_all a.entries s) (nth b n)) start
-    (subst (λ (e : List Entry). IsNextEntry b.count (after_all e (begun b)) (nth b n)) front next))
+    (subst (λ (e : List Entry). IsNextEntry b.count (after_all e (initial_progress b)) (nth b n)) front next))
 
 -- A file doesn't stop behind a text where a longer one begins it, of which the pages are whole or that ends with a page.
-stops_before : (a b : Log) (offset : ℕ) (file : List ℕ) → StopsBehind a offset file → IsLawful b → BeginsWith (text b) file
+stops_before : (a b : Log) (offset : ℕ) (file : List ℕ) → StopsBehind a offset file → IsLawful b → BeginsWith (journal_bytes b) file
     → ((offset_of (page_end (length b.entries)) ≤ length file) ⊎ (length b.entries % 128 ≡ 0))
     → length a.entries < length b.entries → ⊥
 stops_before a b offset file stops lawful begins reach less =
     let n = length a.entries in
-    let long : offset_of (length b.entries) ≤ length file = omega (arith, begins.whole, length-text b) in
+    let long : offset_of (length b.entries) ≤ length file = omega (arith, begins.whole, length-journal_bytes b) in
     elim stops.fault [
       | inl lacks ↦
           elim reach [
@@ -201,7 +201,7 @@ fresh_alone log offset file fresh either =
           elim fresh [
             | inl short ↦ absurd (omega (arith, short, journal.pages))
             | inr shut ↦
-                shut (journal.begins.each 0 (omega (arith, length-text log)) ∙ text_header log 0 (omega arith) ∙ header_open log)
+                shut (journal.begins.each 0 (omega (arith, length-journal_bytes log)) ∙ text_header log 0 (omega arith) ∙ header_open log)
           ]
       | inr damaged ↦
           elim fresh [

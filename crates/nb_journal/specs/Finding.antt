@@ -12,9 +12,9 @@ use Rattle.nb_journal.specs.Form.{Log, IsFresh, IsJournal, IsDamagedAt}
 use Rattle.nb_journal.specs.Offsets.{offset_of}
 
 -- a host's refusal, as a reader of the journal hands it on
-abbrev pub error_of : HostError → JournalError
-error_of host.Fault = journal.Fault
-error_of host.NoMemory = journal.NoMemory
+abbrev pub of_host : HostError → JournalError
+of_host host.Fault = journal.Fault
+of_host host.NoMemory = journal.NoMemory
 
 -- the counters are those of a log whose journal the file is
 pub record IsFound (counters : Counters) (file : List ℕ) : Type 0 where

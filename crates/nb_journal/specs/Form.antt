@@ -24,12 +24,12 @@ pub record Log : Type 0 where
   pub entries : List Entry
 
 -- what it comes to before its entries
-abbrev pub begun : Log → Progress
-begun log = record { ticks = 0; time = log.begin_time; target = log.begin_time; gone = log.begin_gone }
+abbrev pub initial_progress : Log → Progress
+initial_progress log = record { ticks = 0; time = log.begin_time; target = log.begin_time; gone = log.begin_gone }
 
 -- what it comes to
 abbrev pub progress_of : Log → Progress
-progress_of log = after_all log.entries (begun log)
+progress_of log = after_all log.entries (initial_progress log)
 
 -- the log with one more entry
 abbrev pub with_entry : Log → Entry → Log
@@ -45,26 +45,26 @@ pub record IsLawful (log : Log) : Type 0 where
   pub count : log.count ≤ most_bodies
   pub time : log.begin_time < 2 ^ 64
   pub gone : log.begin_gone ≤ log.count
-  pub entries : AreLawful log.count (begun log) log.entries
+  pub entries : AreLawful log.count (initial_progress log) log.entries
 
-abbrev pub edge_number : Edge → ℕ
-edge_number Open = 0
-edge_number Wrap = 1
+abbrev pub edge_code : Edge → ℕ
+edge_code Open = 0
+edge_code Wrap = 1
 
 -- The header up to its last number: the gate, the form's name and version, the parameters, how many bodies there are, the
 -- time at the start, how many bodies were out then, and what the border of the box does.
-abbrev pub front : ℕ → Log → List ℕ
-front gate log =
+abbrev pub header_fields : ℕ → Log → List ℕ
+header_fields gate log =
     gate ∷ 78 ∷ 66 ∷ 74 ∷ 82 ∷ 78 ∷ 76 ∷ (48 + log.version)
     ∷ (to_le_bytes w64 log.params.grav ++ to_le_bytes w64 log.params.theta_num
     ++ to_le_bytes w64 log.params.theta_den ++ to_le_bytes w64 log.params.soft
     ++ to_le_bytes w64 log.params.leaf ++ to_le_bytes w64 log.params.every
     ++ to_le_bytes w64 log.count ++ to_le_bytes w64 log.begin_time ++ to_le_bytes w64 log.begin_gone
-    ++ to_le_bytes w64 (edge_number log.params.edge))
+    ++ to_le_bytes w64 (edge_code log.params.edge))
 
 -- page 0
 unfoldable pub header : ℕ → Log → List ℕ
-header gate log = front gate log ++ replicate 4008 0
+header gate log = header_fields gate log ++ replicate 4008 0
 
 -- an entry that counts: the gate, a letter, and two numbers
 abbrev pub lettered : ℕ → ℕ → ℕ → List ℕ
@@ -77,8 +77,8 @@ entry_bytes (Leg target) = lettered 76 target 0
 entry_bytes (Tick number gone) = lettered 84 number gone
 
 -- the one spelling of a log
-abbrev pub text : Log → List ℕ
-text log = header started_gate log ++ flat_map entry_bytes log.entries
+abbrev pub journal_bytes : Log → List ℕ
+journal_bytes log = header started_gate log ++ flat_map entry_bytes log.entries
 
 -- No journal is started: the file is no longer than the header, or its gate is shut.
 abbrev pub IsFresh : List ℕ → Type 0
@@ -88,7 +88,7 @@ IsFresh file = (length file ≤ page_length) ⊎ (slice_index file 0 ≢ started
 -- are looked at are whole, and the next entry's gate is shut. What stands behind that gate isn't looked at.
 pub record IsJournal (log : Log) (file : List ℕ) : Type 0 where
   pub lawful : IsLawful log
-  pub begins : BeginsWith (text log) file
+  pub begins : BeginsWith (journal_bytes log) file
   pub pages : offset_of (page_end (length log.entries)) ≤ length file
   pub shut : slice_index file (offset_of (length log.entries)) ≢ entry_gate
 
@@ -109,7 +109,7 @@ pub record IsStarted (file : List ℕ) : Type 0 where
 
 -- no lawful log's header stands on page 0
 abbrev pub HasNoHeader : List ℕ → Type 0
-HasNoHeader file = (log : Log) → IsLawful log → BeginsWith (text log) file → ⊥
+HasNoHeader file = (log : Log) → IsLawful log → BeginsWith (journal_bytes log) file → ⊥
 
 -- the file ends within the page that begins with entry n
 pub record LacksPage (n : ℕ) (file : List ℕ) : Type 0 where
@@ -121,13 +121,13 @@ pub record HasBadEntry (log : Log) (file : List ℕ) : Type 0 where
   pub page : offset_of (page_end (length log.entries)) ≤ length file
   pub gate : slice_index file (offset_of (length log.entries)) ≡ entry_gate
   pub bad : (entry : Entry) → IsNextEntry log.count (progress_of log) entry
-      → BeginsWith (text (with_entry log entry)) file → ⊥
+      → BeginsWith (journal_bytes (with_entry log entry)) file → ⊥
 
 -- Behind the text of this log stands what is wrong: a page that is looked at, since the gates before it are open, or an
 -- entry.
 pub record StopsBehind (log : Log) (offset : ℕ) (file : List ℕ) : Type 0 where
   pub lawful : IsLawful log
-  pub begins : BeginsWith (text log) file
+  pub begins : BeginsWith (journal_bytes log) file
   pub here : offset ≡ offset_of (length log.entries)
   pub fault : LacksPage (length log.entries) file ⊎ HasBadEntry log file
 

@@ -2,7 +2,7 @@
 use Rattle.std.specs.Prelude.{◌≡◌, ℕ, ◌+◌, ◌-◌, ◌%◌, ◌<◌, ◌≤◌, ◌⊎◌, ◌==◌, max, nat_lt, if◌then◌else◌, List, [], ◌∷◌, ◌++◌, length, drop, replicate, slice_index}
 use Rattle.nb_host.specs.Crashes.{AgreesOutside}
 use Rattle.nb_host.specs.Image.{Image, overwritten}
-use Rattle.nb_host.specs.Meaning.{HostModel, IsLeft}
+use Rattle.nb_host.specs.Meaning.{HostModel, FileIs}
 use Rattle.nb_journal.specs.declared.entry.Entry.{Entry}
 use Rattle.nb_journal.specs.Form.{Log, header, entry_bytes, IsFresh, IsCleanJournal, with_entry}
 use Rattle.nb_journal.specs.Offsets.{journal_file, page_length, entries_per_page, entry_gate, offset_of, page_end, IsZeros}
@@ -49,17 +49,17 @@ IsSame reads image = image ≡ reads
 
 -- Before `prepare`: no journal is started, and that is durable.
 abbrev pub IsFreshNow : {H : Type 0} → HostModel H → H → Type 0
-IsFreshNow m host = IsLeft m journal_file IsFresh IsSame host
+IsFreshNow m host = FileIs m journal_file IsFresh IsSame host
 
 -- Between `prepare` and `start_gate`: what reads is laid down, and no image is started. The first page of entries may not
 -- be durable yet.
 abbrev pub IsPrepared : {H : Type 0} → HostModel H → Log → H → Type 0
-IsPrepared m log host = IsLeft m journal_file (λ reads. reads ≡ prepared log) (λ reads image. IsFresh image) host
+IsPrepared m log host = FileIs m journal_file (λ reads. reads ≡ prepared log) (λ reads image. IsFresh image) host
 
 -- Before `append`: the file is a clean journal of the log, and durable. That it is clean follows of a journal that these
 -- calls wrote (`law_ready`), and not from what `find` answers.
 abbrev pub IsCleanNow : {H : Type 0} → HostModel H → Log → H → Type 0
-IsCleanNow m log host = IsLeft m journal_file (IsCleanJournal log) IsSame host
+IsCleanNow m log host = FileIs m journal_file (IsCleanJournal log) IsSame host
 
 -- What an image may be. `start` is an image when the call began, and `before` is what read then.
 

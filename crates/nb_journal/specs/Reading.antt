@@ -6,7 +6,7 @@ use Rattle.nb_journal.specs.declared.error.JournalError.{JournalError}
 use Rattle.nb_journal.specs.declared.error.JournalError.TheVariants.{Fault, NoMemory, Damaged}
 use Rattle.nb_journal.specs.Counters.{Counters, Answers}
 use Rattle.nb_journal.specs.Finding.{IsFound}
-use Rattle.nb_journal.specs.Form.{Log, IsLawful, IsDamagedAt, text}
+use Rattle.nb_journal.specs.Form.{Log, IsLawful, IsDamagedAt, journal_bytes}
 use Rattle.nb_journal.specs.Offsets.{page_length, entries_per_page, offset_of, page_end, BeginsWith}
 
 -- The numbers of an entry fit its fields.
@@ -24,7 +24,7 @@ pub record HoldsPage (n : ℕ) (file page : List ℕ) : Type 0 where
 pub record IsReadTo (file : List ℕ) (counters : Counters) : Type 0 where
   pub log : Log
   pub lawful : IsLawful log
-  pub begins : BeginsWith (text log) file
+  pub begins : BeginsWith (journal_bytes log) file
   pub answers : Answers log counters
 
 -- what is found behind the entries that were read

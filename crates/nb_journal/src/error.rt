@@ -1,7 +1,7 @@
 //! Why a journal could not be read.
 
 ghost use Rattle.std.specs.Prelude.{◌≡◌};
-ghost use Rattle.nb_journal.specs.Finding.{error_of};
+ghost use Rattle.nb_journal.specs.Finding.{of_host};
 
 use nb_host::HostError;
 use thiserror::Error;
@@ -21,7 +21,7 @@ pub enum JournalError {
 }
 
 impl From<HostError> for JournalError {
-    ghost from_gives = { λ error e. e ≡ error_of error };
+    ghost from_gives = { λ error e. e ≡ of_host error };
 
     fn from(error: HostError) -> Self {
         match error {

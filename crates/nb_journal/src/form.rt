@@ -2,7 +2,7 @@
 
 ghost use Rattle.std.specs.Prelude.{◌≡◌, ◌^◌, ◌<◌, ◌≤◌};
 ghost use Rattle.nb_journal.specs.Counters.{log_under};
-ghost use Rattle.nb_journal.specs.Form.{front, header, lettered, entry_bytes, edge_number};
+ghost use Rattle.nb_journal.specs.Form.{header_fields, header, lettered, entry_bytes, edge_code};
 ghost use Rattle.nb_journal.specs.Offsets.{offset_of};
 
 use crate::entry::Entry;
@@ -104,7 +104,7 @@ pub(crate) fn page(gate: u8, heading: &Heading) -> [u8; PAGE_SIZE]
 
 fn page_front(gate: u8, heading: &Heading) -> [u8; FRONT_LENGTH]
     requires { heading.now.version ≤ 2 }
-    ensures { result ≡ front gate (log_under heading.now) }
+    ensures { result ≡ header_fields gate (log_under heading.now) }
 {
     let params = &heading.params;
     let mut bytes = [0; FRONT_LENGTH];
@@ -120,12 +120,12 @@ fn page_front(gate: u8, heading: &Heading) -> [u8; FRONT_LENGTH]
     bytes[56..64].copy_from_slice(&heading.count.to_le_bytes());
     bytes[64..72].copy_from_slice(&heading.time.to_le_bytes());
     bytes[72..80].copy_from_slice(&heading.gone.to_le_bytes());
-    bytes[80..88].copy_from_slice(&edge_number(params.edge).to_le_bytes());
+    bytes[80..88].copy_from_slice(&edge_code(params.edge).to_le_bytes());
     bytes
 }
 
-fn edge_number(edge: Edge) -> u64
-    ensures { result ≡ edge_number edge }
+fn edge_code(edge: Edge) -> u64
+    ensures { result ≡ edge_code edge }
 {
     match edge {
         Edge::Open => 0,

@@ -2,7 +2,7 @@
 
 ghost use Rattle.std.specs.Prelude.{◌≡◌, ◌⊎◌, ℕ, List, IsTrue};
 ghost use Rattle.nb_host.specs.Crashes.{ImagesFollow};
-ghost use Rattle.nb_host.specs.Image.{Spares};
+ghost use Rattle.nb_host.specs.Image.{KeepsFile};
 ghost use Rattle.nb_host.specs.Meaning.{Leads, IsDurable};
 ghost use Rattle.nb_journal.specs.declared.entry.Entry.{Entry};
 ghost use Rattle.nb_journal.specs.Counters.{counters_after, counters_of};
@@ -57,13 +57,13 @@ pub fn law_counters()
 
 /// What the calls that write a journal need of its file, that no journal is started, that one is laid down,
 /// and that one is clean and durable, stays through calls that spare the file: those on other files, a sync,
-/// and a say (`nb_host`'s `law_left`).
+/// and a say (`nb_host`'s `law_file_stays`).
 pub fn law_kept<H: Host>()
-    ensures fresh { (old new : H) → Leads H.meaning (Spares journal_file) old new
+    ensures fresh { (old new : H) → Leads H.meaning (KeepsFile journal_file) old new
         → IsFreshNow H.meaning old → IsFreshNow H.meaning new }
-    ensures prepared { (log : Log) (old new : H) → Leads H.meaning (Spares journal_file) old new
+    ensures prepared { (log : Log) (old new : H) → Leads H.meaning (KeepsFile journal_file) old new
         → IsPrepared H.meaning log old → IsPrepared H.meaning log new }
-    ensures ready { (log : Log) (old new : H) → Leads H.meaning (Spares journal_file) old new
+    ensures ready { (log : Log) (old new : H) → Leads H.meaning (KeepsFile journal_file) old new
         → IsCleanNow H.meaning log old → IsCleanNow H.meaning log new }
 {}
 

@@ -83,9 +83,6 @@ parent_at (suc level) key is other =
 pub parent_is : (key : ℕ) → IsKey key → key ≢ 1 → IsKey (key / 8)
 parent_is key (level, is) other = parent_at level key is other
 
-pub some_key : (key : ℕ) → IsKey key → 0 < key
-some_key key (level, is) = omega (arith, is.least, eight_pos level)
-
 -- ---- a list of octants
 
 key_from : ℕ → List ℕ → ℕ

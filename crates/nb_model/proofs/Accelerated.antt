@@ -12,7 +12,7 @@ use Rattle.nb_model.specs.Limits.{deepest_level}
 use Rattle.nb_model.specs.Vector.{zero_vector, vector_sum}
 use Rattle.nb_model.specs.Octree.{octant_at, in_octant, total_mass, centre_of_mass}
 use Rattle.nb_model.specs.Gravity.{pull, is_far, cell_holds, is_accepted, direct_sum, octants, cell_force, force_to_depth, force_on}
-use Rattle.nb_model.specs.Leapfrog.{in_box, half_kick, accelerate}
+use Rattle.nb_model.specs.Leapfrog.{unescaped, half_kick, accelerate}
 use Rattle.nb_model.proofs.Vectors.{same_position}
 use Rattle.nb_model.proofs.Sums.{map_agree, sum_by-map, filter-map}
 
@@ -22,8 +22,8 @@ accelerated way change bodies = map (λ b. accelerate way (change b) b) bodies
 
 -- ---- the bodies of a cell
 
-in_box-accelerated : (way : Way) (change : Body → V3) (bodies : List Body) → in_box (accelerated way change bodies) ≡ accelerated way change (in_box bodies)
-in_box-accelerated way change bodies =
+unescaped-accelerated : (way : Way) (change : Body → V3) (bodies : List Body) → unescaped (accelerated way change bodies) ≡ accelerated way change (unescaped bodies)
+unescaped-accelerated way change bodies =
     filter-map (λ b. not b.out) (λ b. accelerate way (change b) b) bodies
 
 in_octant-accelerated : (way : Way) (change : Body → V3) (level : ℕ) (bodies : List Body) (octant : ℕ) → in_octant level (accelerated way change bodies) octant ≡ accelerated way change (in_octant level bodies octant)
@@ -83,6 +83,6 @@ force_to_depth-accelerated way change params p (suc depth) bodies =
 
 pub half_kick-accelerated : (way : Way) (change : Body → V3) (params : Params) (bodies : List Body) (b : Body) → half_kick params (accelerated way change bodies) b ≡ half_kick params bodies b
 half_kick-accelerated way change params bodies b =
-    let inside = ap (λ cell. force_on params b.at 0 cell) (in_box-accelerated way change bodies) in
-    let force = inside ∙ force_to_depth-accelerated way change params b.at deepest_level (in_box bodies) in
+    let inside = ap (λ cell. force_on params b.at 0 cell) (unescaped-accelerated way change bodies) in
+    let force = inside ∙ force_to_depth-accelerated way change params b.at deepest_level (unescaped bodies) in
     ap (λ k. cond b.out zero_vector k) force

@@ -10,4 +10,4 @@ pub use Rattle.nb_model.proofs.Cells.{octant_forces, force_on-deepest, force_on-
 pub use Rattle.nb_model.proofs.Forces.{direct_sum_bound, force_on_bound, pull_below, direct_sum-take_below, force_on_below, gm-in_octant, octant_forces-take_below}
 pub use Rattle.nb_model.proofs.Accelerated.{accelerated, half_kick-accelerated}
 pub use Rattle.nb_model.proofs.Drifts.{IsBelow-from_test, is_below-from, IsDrifted, is_drifted, drift_body_cases, drift_body-in_box, drift-in_box, kick-in_box}
-pub use Rattle.nb_model.proofs.Steps.{total_mass-in_box-le, length-in_box-le, gm-in_box, half_kick_bound, half_kick_below, total_mass-kick, length-kick, ids-kick, escaped_count-kick, total_mass-drift, length-drift, ids-drift, kicked_body, kicked_again_body, drifted_body, IsValidBody-drifted, All-kick, All-drift, drift-kick_valid, step_valid}
+pub use Rattle.nb_model.proofs.Steps.{total_mass-unescaped-le, length-unescaped-le, gm-unescaped, half_kick_bound, half_kick_below, total_mass-kick, length-kick, ids-kick, escaped_count-kick, total_mass-drift, length-drift, ids-drift, kicked_body, kicked_again_body, drifted_body, IsValidBody-drifted, All-kick, All-drift, drift-kick_valid, step_valid}

@@ -11,21 +11,9 @@ use Rattle.nb_model.proofs.Roots.{le-integer_root}
 
 -- ---- the sign of a difference
 
-pub difference_ahead : (from to : ℕ) → from ≤ to → pos to -ℤ pos from ≡ pos (to - from)
-difference_ahead from to le = omega (arith, ints)
-
-pub difference_behind : (from to : ℕ) → to ≤ from → pos to -ℤ pos from ≡ neg_ℤ (pos (from - to))
-difference_behind from to le = omega (arith, ints)
-
-pub size-difference_ahead : (from to : ℕ) → from ≤ to → unsigned_abs (pos to -ℤ pos from) ≡ to - from
-size-difference_ahead from to le = ap unsigned_abs (difference_ahead from to le)
-
 pub size-neg : (n : ℕ) → unsigned_abs (neg_ℤ (pos n)) ≡ n
 size-neg zero = refl
 size-neg (suc n) = refl
-
-pub size-difference_behind : (from to : ℕ) → to ≤ from → unsigned_abs (pos to -ℤ pos from) ≡ from - to
-size-difference_behind from to le = ap unsigned_abs (difference_behind from to le) ∙ size-neg (from - to)
 
 -- ---- a quotient toward zero has the sign of its dividend
 

@@ -16,8 +16,8 @@ use Rattle.nb_model.specs.Limits.{box_side, gm_limit, kick_limit, speed_limit}
 use Rattle.nb_model.specs.Vector.{zero_vector}
 use Rattle.nb_model.specs.Octree.{total_mass}
 use Rattle.nb_model.specs.Gravity.{force_on}
-use Rattle.nb_model.specs.Leapfrog.{in_box, escaped_count, half_kick, changed_along, changed, accelerate, kick, drifted, drift_of, drift_body, drift, step}
-use Rattle.nb_model.specs.Valid.{IsBelow, IsValidBody, IsKickedBody, IsDriftedBody, IsValidBodies}
+use Rattle.nb_model.specs.Leapfrog.{unescaped, escaped_count, half_kick, changed_along, changed, accelerate, kick, drifted, drift_of, drift_body, drift, step}
+use Rattle.nb_model.specs.Valid.{IsBelow, IsValidBody, IsBodyAfterKick, IsDriftedBody, IsValidBodies}
 use Rattle.nb_model.specs.Laws.{BodyStaysValid}
 use Rattle.nb_model.proofs.Sums.{map_agree, sum_by_agree, sum_by-map, sum_by-filter-le, length-filter-le}
 use Rattle.nb_model.proofs.Vectors.{IsAtMost, IsAtMost-zero, IsAtMost-more, IsBelow-from_most}
@@ -26,23 +26,23 @@ use Rattle.nb_model.proofs.Forces.{force_on_bound}
 
 -- ---- the bodies in the box
 
-pub total_mass-in_box-le : (bodies : List Body) → total_mass (in_box bodies) ≤ total_mass bodies
-total_mass-in_box-le bodies = sum_by-filter-le (λ b. b.mass) (λ b. not b.out) bodies
+pub total_mass-unescaped-le : (bodies : List Body) → total_mass (unescaped bodies) ≤ total_mass bodies
+total_mass-unescaped-le bodies = sum_by-filter-le (λ b. b.mass) (λ b. not b.out) bodies
 
-pub length-in_box-le : (bodies : List Body) → length (in_box bodies) ≤ length bodies
-length-in_box-le bodies = length-filter-le (λ b. not b.out) bodies
+pub length-unescaped-le : (bodies : List Body) → length (unescaped bodies) ≤ length bodies
+length-unescaped-le bodies = length-filter-le (λ b. not b.out) bodies
 
-pub gm-in_box : (grav : ℕ) (bodies : List Body) → grav * total_mass bodies < gm_limit → grav * total_mass (in_box bodies) < gm_limit
-gm-in_box grav bodies gm = omega (arith, mul-le-mul_left grav (total_mass-in_box-le bodies))
+pub gm-unescaped : (grav : ℕ) (bodies : List Body) → grav * total_mass bodies < gm_limit → grav * total_mass (unescaped bodies) < gm_limit
+gm-unescaped grav bodies gm = omega (arith, mul-le-mul_left grav (total_mass-unescaped-le bodies))
 
 -- a half kick is at most the constant of gravity times the mass of all bodies
 pub half_kick_bound : (params : Params) (bodies : List Body) (b : Body) → IsAtMost (params.grav * total_mass bodies) (half_kick params bodies b)
 half_kick_bound params bodies b =
     let most = params.grav * total_mass bodies in
-    let inner = params.grav * total_mass (in_box bodies) in
-    let force = force_on params b.at 0 (in_box bodies) in
-    let less : inner ≤ most = mul-le-mul_left params.grav (total_mass-in_box-le bodies) in
-    cond_both b.out zero_vector force (λ v. IsAtMost most v) (λ _. IsAtMost-zero most) (λ _. IsAtMost-more inner most force less (force_on_bound params b.at 0 (in_box bodies)))
+    let inner = params.grav * total_mass (unescaped bodies) in
+    let force = force_on params b.at 0 (unescaped bodies) in
+    let less : inner ≤ most = mul-le-mul_left params.grav (total_mass-unescaped-le bodies) in
+    cond_both b.out zero_vector force (λ v. IsAtMost most v) (λ _. IsAtMost-zero most) (λ _. IsAtMost-more inner most force less (force_on_bound params b.at 0 (unescaped bodies)))
 
 -- ---- what stays
 
@@ -89,7 +89,7 @@ IsBelow-changed way m n most v k le p q = record {
   z = changed_along-below way v.z k.z m n most le p.z q.z;
 }
 
-pub kicked_body : (way : Way) (b : Body) (k : V3) → IsValidBody b → IsBelow kick_limit k → IsKickedBody (accelerate way k b)
+pub kicked_body : (way : Way) (b : Body) (k : V3) → IsValidBody b → IsBelow kick_limit k → IsBodyAfterKick (accelerate way k b)
 kicked_body way b k valid small = record {
   some_mass = valid.some_mass;
   mass = valid.mass;
@@ -105,7 +105,7 @@ kicked_again_body way b k drifted small = record {
   speed = λ inside. IsBelow-changed way box_side kick_limit speed_limit b.v k (omega arith) (drifted.speed inside) small;
 }
 
-pub drifted_body : (params : Params) (way : Way) (b : Body) → IsKickedBody b → IsDriftedBody (drift_body params way b)
+pub drifted_body : (params : Params) (way : Way) (b : Body) → IsBodyAfterKick b → IsDriftedBody (drift_body params way b)
 drifted_body params way b kicked = drift_body_cases params way b IsDriftedBody
     (λ out. record { some_mass = kicked.some_mass; mass = kicked.mass; at = kicked.at; speed = λ inside. absurd (both_ways b.out inside out) })
     (λ inside r there. let moved = is_drifted params.edge b.at (drift_of way b.v) r kicked.at there in
@@ -134,13 +134,13 @@ pub half_kick_below : (params : Params) (bodies : List Body) → params.grav * t
 half_kick_below params bodies gm b =
     IsBelow-from_most (params.grav * total_mass bodies) kick_limit (half_kick params bodies b) gm (half_kick_bound params bodies b)
 
-pub All-kick : (params : Params) (way : Way) (bodies : List Body) → IsValidBodies params bodies → All IsKickedBody (kick params way bodies)
+pub All-kick : (params : Params) (way : Way) (bodies : List Body) → IsValidBodies params bodies → All IsBodyAfterKick (kick params way bodies)
 All-kick params way bodies valid =
-    All-map IsKickedBody (λ b. accelerate way (half_kick params bodies b) b) bodies (All-weaker IsValidBody (λ b. IsKickedBody (accelerate way (half_kick params bodies b) b)) (λ b ok. kicked_body way b (half_kick params bodies b) ok (half_kick_below params bodies valid.gm b)) bodies valid.each)
+    All-map IsBodyAfterKick (λ b. accelerate way (half_kick params bodies b) b) bodies (All-weaker IsValidBody (λ b. IsBodyAfterKick (accelerate way (half_kick params bodies b) b)) (λ b ok. kicked_body way b (half_kick params bodies b) ok (half_kick_below params bodies valid.gm b)) bodies valid.each)
 
-pub All-drift : (params : Params) (way : Way) (bodies : List Body) → All IsKickedBody bodies → All IsDriftedBody (drift params way bodies)
+pub All-drift : (params : Params) (way : Way) (bodies : List Body) → All IsBodyAfterKick bodies → All IsDriftedBody (drift params way bodies)
 All-drift params way bodies kicked =
-    All-map IsDriftedBody (drift_body params way) bodies (All-weaker IsKickedBody (λ b. IsDriftedBody (drift_body params way b)) (drifted_body params way) bodies kicked)
+    All-map IsDriftedBody (drift_body params way) bodies (All-weaker IsBodyAfterKick (λ b. IsDriftedBody (drift_body params way b)) (drifted_body params way) bodies kicked)
 
 -- the list between the drift and the second half kick is valid
 pub drift-kick_valid : (params : Params) (way : Way) (bodies : List Body) → IsValidBodies params bodies → IsValidBodies params (drift params way (kick params way bodies))

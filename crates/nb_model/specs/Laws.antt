@@ -12,7 +12,7 @@ use Rattle.nb_model.specs.Vector.{zero_vector, vector_sum, displacement, norm_sq
 use Rattle.nb_model.specs.Octree.{cell_side, in_octant, total_mass, centre_of_mass}
 use Rattle.nb_model.specs.Gravity.{pull_along, pull, is_far, is_accepted, direct_sum, octants, force_on}
 use Rattle.nb_model.specs.Leapfrog.{half_kick, changed, accelerate, is_position, vector_of, position_of, drifted, drift_body, step, escaped_count}
-use Rattle.nb_model.specs.Valid.{IsInBox, IsBelow, IsValidBody, IsKickedBody, IsDriftedBody, IsValidBodies}
+use Rattle.nb_model.specs.Valid.{IsInBox, IsBelow, IsValidBody, IsBodyAfterKick, IsDriftedBody, IsValidBodies}
 
 -- The force of the bodies of a cell, by cases, the first that applies: no body gives nothing; an accepted cell gives one
 -- pull; a leaf, which has at most `leaf` bodies or is at the deepest level, gives what its bodies give one by one; and
@@ -31,11 +31,11 @@ ForceIsByCases = (params : Params) (p : At) (level : ℕ) (bodies : List Body) �
 abbrev pub HalfKickIsBelow : Type 0
 HalfKickIsBelow = (params : Params) (bodies : List Body) (b : Body) → IsValidBodies params bodies → IsBelow kick_limit (half_kick params bodies b)
 
--- What a tick makes of a body, step by step. The drift leaves a body in the box slower than the side of the box, with
+-- What a tick makes of a body, step by step. The drift leaves an unescaped body slower than the side of the box, with
 -- either edge, so it is valid, and stays so by the second half kick.
 pub record BodyStaysValid : Type 0 where
-  pub kicked : (way : Way) (k : V3) (b : Body) → IsValidBody b → IsBelow kick_limit k → IsKickedBody (accelerate way k b)
-  pub drifted : (params : Params) (way : Way) (b : Body) → IsKickedBody b → IsDriftedBody (drift_body params way b)
+  pub kicked : (way : Way) (k : V3) (b : Body) → IsValidBody b → IsBelow kick_limit k → IsBodyAfterKick (accelerate way k b)
+  pub drifted : (params : Params) (way : Way) (b : Body) → IsBodyAfterKick b → IsDriftedBody (drift_body params way b)
   pub valid : (b : Body) → IsDriftedBody b → IsValidBody b
   pub kicked_again : (way : Way) (k : V3) (b : Body) → IsDriftedBody b → IsBelow kick_limit k → IsValidBody (accelerate way k b)
 

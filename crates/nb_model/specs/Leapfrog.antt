@@ -15,17 +15,17 @@ use Rattle.nb_model.specs.Vector.{zero_vector, plus, negated, is_below}
 use Rattle.nb_model.specs.Gravity.{force_on}
 
 -- the bodies that aren't out, in their order
-abbrev pub in_box : List Body → List Body
-in_box bodies = filter (λ b. not b.out) bodies
+abbrev pub unescaped : List Body → List Body
+unescaped bodies = filter (λ b. not b.out) bodies
 
 -- how many bodies are out
 abbrev pub escaped_count : List Body → ℕ
 escaped_count bodies = count_by (λ b. b.out) bodies
 
--- The half kick of a body of the list: the force of the bodies in the box on it, from the root cell down. A body that
+-- The half kick of a body of the list: the force of the unescaped bodies on it, from the root cell down. A body that
 -- is out gets none.
 abbrev pub half_kick : Params → List Body → Body → V3
-half_kick params bodies b = if b.out then zero_vector else force_on params b.at 0 (in_box bodies)
+half_kick params bodies b = if b.out then zero_vector else force_on params b.at 0 (unescaped bodies)
 
 -- what becomes of one axis by a change: forward it gains it, and back it loses it
 abbrev pub changed_along : Way → ℤ → ℤ → ℤ

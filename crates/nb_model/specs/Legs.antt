@@ -19,13 +19,13 @@ directions begin [] = []
 directions begin (target ∷ legs) = directions_to begin target ++ directions target legs
 
 -- each leg leads away from the time before it
-abbrev pub EachLeads : ℕ → List ℕ → Type 0
-EachLeads begin [] = ⊤
-EachLeads begin (target ∷ legs) = (target ≢ begin) × EachLeads target legs
+abbrev pub EachMoves : ℕ → List ℕ → Type 0
+EachMoves begin [] = ⊤
+EachMoves begin (target ∷ legs) = (target ≢ begin) × EachMoves target legs
 
 -- The legs are those of a run: each leads away from the time before it, to a time that the code can hold.
 pub record AreLegs (begin : ℕ) (legs : List ℕ) : Type 0 where
-  pub each : EachLeads begin legs
+  pub each : EachMoves begin legs
   pub targets : All (λ target. target < 2 ^ 64) legs
   pub count : length (directions begin legs) ≤ most_ticks
 

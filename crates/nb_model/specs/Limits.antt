@@ -26,7 +26,7 @@ gm_limit = 2 ^ 60
 abbrev pub kick_limit : ℕ
 kick_limit = 2 ^ 60
 
--- The speed of a body in the box is below this on each axis before and after each tick, in box units a tick.
+-- The speed of an unescaped body is below this on each axis before and after each tick, in box units a tick.
 abbrev pub speed_limit : ℕ
 speed_limit = 2 ^ 61
 

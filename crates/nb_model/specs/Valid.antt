@@ -40,7 +40,7 @@ pub record IsValidBody (b : Body) : Type 0 where
   pub speed : b.out ≡ false → IsBelow speed_limit b.v
 
 -- what a half kick leaves of a valid body, which a drift then moves
-pub record IsKickedBody (b : Body) : Type 0 where
+pub record IsBodyAfterKick (b : Body) : Type 0 where
   pub some_mass : 1 ≤ b.mass
   pub mass : b.mass < mass_limit
   pub at : IsInBox b.at

@@ -18,7 +18,7 @@ pub const GM_LIMIT: u64 = 1 << 60;
 /// A half kick is below this on each axis, in box units a tick.
 pub const KICK_LIMIT: u64 = 1 << 60;
 
-/// The speed of a body in the box is below this on each axis, in box units a tick.
+/// The speed of an unescaped body is below this on each axis, in box units a tick.
 pub const SPEED_LIMIT: u64 = 1 << 61;
 
 /// The most bodies of a list.

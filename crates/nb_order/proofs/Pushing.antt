@@ -12,7 +12,7 @@ use Rattle.nb_host.specs.Image.{IsTorn, overwritten, readable}
 use Rattle.nb_host.proofs.Callers.{overwritten_is_torn, overwritten-within, readable-overwritten, readable-torn_after}
 use Rattle.nb_record.specs.Order.{pages_for, count_on, record_of, HoldsBodies}
 use Rattle.nb_record.specs.declared.sizes.TheConstants.{BODIES_PER_PAGE, BODY_SIZE}
-use Rattle.nb_record.specs.Pages.{page_number, page_count, IsBodyPage}
+use Rattle.nb_record.specs.Pages.{page_number, record_count, IsBodyPage}
 use Rattle.nb_record.specs.Records.{body_record, body_of, kick_of, bodies_of, IsBodyRecord}
 use Rattle.nb_record.specs.Writing.{IsZeroPadded, IsZeroPaddedFile}
 use Rattle.nb_record.proofs.Callers.{length-bodies_of, body_at}
@@ -23,7 +23,7 @@ use Rattle.nb_order.specs.Indexes.{HasKicks}
 pub record IsNextPage (file : List ℕ) (j : ℕ) (page : List ℕ) (body : Body) (kick : V3) : Type 0 where
   pub size : length page ≡ PAGE_SIZE
   pub form : IsBodyPage (j / BODIES_PER_PAGE) page
-  pub count : page_count page ≡ j % BODIES_PER_PAGE + 1
+  pub count : record_count page ≡ j % BODIES_PER_PAGE + 1
   pub kept : (i : ℕ) → i < j % BODIES_PER_PAGE → body_record i page ≡ body_record i (page_of file (j / BODIES_PER_PAGE))
   pub valid : IsBodyRecord (body_record (j % BODIES_PER_PAGE) page)
   pub says : body_of (body_record (j % BODIES_PER_PAGE) page) ≡ body
@@ -127,15 +127,15 @@ module _ (file page : List ℕ) (bodies : List Body) (body : Body) (kick : V3) (
         subst (λ q. IsBodyPage q (page_of new_file q)) last (subst (IsBodyPage (count / BODIES_PER_PAGE)) (sym here) next.form)
   ]
 
-  count_of : (p : ℕ) → p < count / BODIES_PER_PAGE + 1 → page_count (page_of new_file p) ≡ count_on (count + 1) p
+  count_of : (p : ℕ) → p < count / BODIES_PER_PAGE + 1 → record_count (page_of new_file p) ≡ count_on (count + 1) p
   count_of p within = elim (cases_lt p (count / BODIES_PER_PAGE)) [
     | inl earlier ↦
-        ap page_count (below p earlier) ∙ holds.counts p (before_last count p earlier)
+        ap record_count (below p earlier) ∙ holds.counts p (before_last count p earlier)
         ∙ sym (count_before count p earlier)
     | inr not_earlier ↦
         let last : count / BODIES_PER_PAGE ≡ p = omega arith in
-        subst (λ q. page_count (page_of new_file q) ≡ count_on (count + 1) q) last
-        (ap page_count here ∙ next.count ∙ sym (count_last count))
+        subst (λ q. record_count (page_of new_file q) ≡ count_on (count + 1) q) last
+        (ap record_count here ∙ next.count ∙ sym (count_last count))
   ]
 
   record_of_one : (j : ℕ) → j < count + 1 → IsBodyRecord (record_of new_file j)
@@ -197,7 +197,7 @@ body_pushed file page new bodies body kick j holds long next written =
 -- The page to which body j is to be added: a new one, or the file's.
 pub record IsOpened (file : List ℕ) (j : ℕ) (page : List ℕ) : Type 0 where
   pub form : IsBodyPage (j / BODIES_PER_PAGE) page
-  pub count : page_count page ≡ j % BODIES_PER_PAGE
+  pub count : record_count page ≡ j % BODIES_PER_PAGE
   pub read : j % BODIES_PER_PAGE ≢ 0 → page ≡ page_of file (j / BODIES_PER_PAGE)
   pub whole : j % BODIES_PER_PAGE ≢ 0 → HasPage file (j / BODIES_PER_PAGE)
   pub fresh : j % BODIES_PER_PAGE ≡ 0 → IsZeroPadded BODY_SIZE page
@@ -207,11 +207,11 @@ pub record IsAdded (old new : List ℕ) (body : Body) (kick : V3) : Type 0 where
   pub size : length new ≡ PAGE_SIZE
   pub number : page_number new ≡ page_number old
   pub form : IsBodyPage (page_number new) new
-  pub count : page_count new ≡ page_count old + 1
-  pub kept : (i : ℕ) → i < page_count old → body_record i new ≡ body_record i old
-  pub valid : IsBodyRecord (body_record (page_count old) new)
+  pub count : record_count new ≡ record_count old + 1
+  pub kept : (i : ℕ) → i < record_count old → body_record i new ≡ body_record i old
+  pub valid : IsBodyRecord (body_record (record_count old) new)
   pub bodies : bodies_of new ≡ bodies_of old ++ body ∷ []
-  pub kicked : kick_of (body_record (page_count old) new) ≡ kick
+  pub kicked : kick_of (body_record (record_count old) new) ≡ kick
   pub padded : IsZeroPadded BODY_SIZE old → IsZeroPadded BODY_SIZE new
 
 -- the whole page behind full ones of a file that has so many bodies

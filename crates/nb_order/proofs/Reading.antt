@@ -12,9 +12,9 @@ use Rattle.nb_model.specs.declared.body.V3.{V3}
 use Rattle.nb_model.specs.declared.body.Body.{Body}
 use Rattle.nb_record.specs.declared.sizes.TheConstants.{BODIES_PER_PAGE}
 use Rattle.nb_record.specs.Order.{pages_for, count_on, record_of, HoldsBodies, HoldsKickedBodies, HaveDifferentIds}
-use Rattle.nb_record.specs.Fields.{word}
+use Rattle.nb_record.specs.Fields.{u64_at}
 use Rattle.nb_record.specs.declared.header.PageError.TheVariants.{Number, Count, Next}
-use Rattle.nb_record.specs.Pages.{page_number, page_count, page_next, read_body_page, IsBodyPage}
+use Rattle.nb_record.specs.Pages.{page_number, record_count, page_next, read_body_page, IsBodyPage}
 use Rattle.nb_record.specs.Records.{body_record, body_of, kick_of, IsBodyRecord}
 use Rattle.nb_record.proofs.Callers.{page_within, index_within}
 use Rattle.nb_order.specs.Files.{page_of_body, HasBody, HasRoomFor, IsBodyAt, IsUnsortable}
@@ -33,12 +33,12 @@ tests_same false count next zeros bytes bodies is = absurd (cc)
 -- a page that a check answers is the bytes
 pub checked_same : (page : ℕ) (bytes bodies : List ℕ) → read_body_page page bytes ≡ Ok bodies → bodies ≡ bytes
 checked_same page bytes bodies is =
-    tests_same (eqb (page_number bytes) page) (leb (page_count bytes) BODIES_PER_PAGE) (eqb (page_next bytes) 0) (eqb (word 24 bytes) 0) bytes bodies is
+    tests_same (eqb (page_number bytes) page) (leb (record_count bytes) BODIES_PER_PAGE) (eqb (page_next bytes) 0) (eqb (u64_at 24 bytes) 0) bytes bodies is
 
 -- what was read of the record of body j on its page
 pub record IsRead (bytes : List ℕ) (page j : ℕ) (body : Body) (kick : V3) : Type 0 where
   pub form : IsBodyPage page bytes
-  pub within : j % BODIES_PER_PAGE < page_count bytes
+  pub within : j % BODIES_PER_PAGE < record_count bytes
   pub valid : IsBodyRecord (body_record (j % BODIES_PER_PAGE) bytes)
   pub body_is : body ≡ body_of (body_record (j % BODIES_PER_PAGE) bytes)
   pub kick_is : kick ≡ kick_of (body_record (j % BODIES_PER_PAGE) bytes)
@@ -54,7 +54,7 @@ body_read view bytes name file j body kick at is whole read =
       has = record {
         whole = subst (λ (n : PageName). HasPage (view n.file) n.page) at whole;
         form = subst (IsBodyPage (j / BODIES_PER_PAGE)) here (subst (λ (n : PageName). IsBodyPage n.page bytes) at read.form);
-        within = subst (λ l. j % BODIES_PER_PAGE < page_count l) here read.within;
+        within = subst (λ l. j % BODIES_PER_PAGE < record_count l) here read.within;
         body = subst (λ l. IsBodyRecord (body_record (j % BODIES_PER_PAGE) l)) here read.valid;
       };
       body_is = read.body_is ∙ ap (λ l. body_of (body_record (j % BODIES_PER_PAGE) l)) here;
@@ -64,12 +64,12 @@ body_read view bytes name file j body kick at is whole read =
 -- a body whose record was not read from its page isn't there
 pub body_missed : (view : ℕ → List ℕ) (bytes : List ℕ) (name : PageName) (file j : ℕ) → name ≡ page_of_body file j
     → bytes ≡ page_of (view name.file) name.page
-    → (IsBodyPage name.page bytes → j % BODIES_PER_PAGE < page_count bytes → ¬ IsBodyRecord (body_record (j % BODIES_PER_PAGE) bytes))
+    → (IsBodyPage name.page bytes → j % BODIES_PER_PAGE < record_count bytes → ¬ IsBodyRecord (body_record (j % BODIES_PER_PAGE) bytes))
     → ¬ HasBody (view file) j
 body_missed view bytes name file j at is none has =
     let was : page_of (view file) (j / BODIES_PER_PAGE) ≡ bytes = sym (is ∙ ap (λ (n : PageName). page_of (view n.file) n.page) at) in
     none (subst (λ (n : PageName). IsBodyPage n.page bytes) (sym at) (subst (IsBodyPage (j / BODIES_PER_PAGE)) was has.form))
-    (subst (λ l. j % BODIES_PER_PAGE < page_count l) was has.within)
+    (subst (λ l. j % BODIES_PER_PAGE < record_count l) was has.within)
     (subst (λ l. IsBodyRecord (body_record (j % BODIES_PER_PAGE) l)) was has.body)
 
 -- ---- a file that holds a list

@@ -5,7 +5,7 @@ use Rattle.nb_host.specs.Page.{page_of, HasPage}
 use Rattle.nb_model.specs.declared.body.V3.{V3}
 use Rattle.nb_model.specs.declared.body.Body.{Body}
 use Rattle.nb_record.specs.declared.sizes.TheConstants.{BODIES_PER_PAGE, BODY_SIZE}
-use Rattle.nb_record.specs.Pages.{page_count, IsBodyPage}
+use Rattle.nb_record.specs.Pages.{record_count, IsBodyPage}
 use Rattle.nb_record.specs.Records.{body_of, kick_of, IsBodyRecord}
 use Rattle.nb_record.specs.Writing.{IsZeroPaddedFile}
 use Rattle.nb_record.specs.Order.{record_of, sorted_by, HoldsBodies, HoldsKickedBodies}
@@ -19,7 +19,7 @@ page_of_body file j = record { file = file; page = j / BODIES_PER_PAGE }
 pub record HasBody (file : List ℕ) (j : ℕ) : Type 0 where
   pub whole : HasPage file (j / BODIES_PER_PAGE)
   pub form : IsBodyPage (j / BODIES_PER_PAGE) (page_of file (j / BODIES_PER_PAGE))
-  pub within : j % BODIES_PER_PAGE < page_count (page_of file (j / BODIES_PER_PAGE))
+  pub within : j % BODIES_PER_PAGE < record_count (page_of file (j / BODIES_PER_PAGE))
   pub body : IsBodyRecord (record_of file j)
 
 -- this is body j of the file, with its kick
@@ -33,7 +33,7 @@ pub record IsBodyAt (file : List ℕ) (j : ℕ) (body : Body) (kick : V3) : Type
 pub record HasRoomFor (file : List ℕ) (j : ℕ) : Type 0 where
   pub whole : j % BODIES_PER_PAGE ≢ 0 → HasPage file (j / BODIES_PER_PAGE)
   pub form : j % BODIES_PER_PAGE ≢ 0 → IsBodyPage (j / BODIES_PER_PAGE) (page_of file (j / BODIES_PER_PAGE))
-  pub count : j % BODIES_PER_PAGE ≢ 0 → page_count (page_of file (j / BODIES_PER_PAGE)) ≡ j % BODIES_PER_PAGE
+  pub count : j % BODIES_PER_PAGE ≢ 0 → record_count (page_of file (j / BODIES_PER_PAGE)) ≡ j % BODIES_PER_PAGE
 
 -- The file that held these bodies holds one more behind them, with its kick. Each record before it stays, with its kick,
 -- and where bytes behind the last record of a page were zeros they are.

@@ -21,7 +21,7 @@ pub record HasNoRoom {H : Type 0} (m : HostModel H) (cache : CacheValue) (host :
 
 -- The first `count` bodies of a file can't be sorted into another: the page is one of the two files, and over a host that
 -- tells that of the first file which `IsUnsortable` names. So that file doesn't hold so many bodies with different ids.
-pub record IsUnsorted {H : Type 0} (m : HostModel H) (rank : Body → ℕ) (cache : CacheValue) (host : H) (from to count : ℕ) (name : PageName) : Type 0 where
+pub record IsSortRefused {H : Type 0} (m : HostModel H) (rank : Body → ℕ) (cache : CacheValue) (host : H) (from to count : ℕ) (name : PageName) : Type 0 where
   pub file : (name.file ≡ from) ⊎ (name.file ≡ to)
   pub shown : IsTrue m.tells → IsUnsortable rank from count (seen m cache host from) name
   pub listed : IsTrue m.tells → (bodies : List Body) → HoldsBodies (seen m cache host from) bodies

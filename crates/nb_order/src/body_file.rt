@@ -13,7 +13,7 @@ ghost use Rattle.nb_cache.specs.InStep.{IsCachedFile, IsCacheable, IsInStep};
 ghost use Rattle.nb_cache.specs.View.{names_of, seen, Seen, Same, IsWhole};
 ghost use Rattle.nb_cache.specs.Writes.{RanCached};
 ghost use Rattle.nb_record.specs.Order.{record_of, HoldsBodies, HoldsKickedBodies};
-ghost use Rattle.nb_record.specs.Pages.{page_count, IsBodyPage};
+ghost use Rattle.nb_record.specs.Pages.{record_count, IsBodyPage};
 ghost use Rattle.nb_record.specs.Records.{body_of, body_record, kick_of, IsBodyRecord};
 ghost use Rattle.nb_record.specs.Writing.{IsZeroPadded};
 ghost use Rattle.nb_order.specs.Files.{page_of_body, HasBody, HasRoomFor, IsBodyAt, HasPushed};
@@ -144,11 +144,11 @@ fn fetch_page<H: Host>(host: &mut H, cache: &mut Cache, name: PageName) -> Resul
 fn read_record(bytes: &[u8], page: u64, index: u64) -> Option<KickedBody>
     requires { length bytes.now ≡ PAGE_SIZE }
     ensures form { IfSome result (λ _. IsBodyPage page bytes.now) }
-    ensures within { IfSome result (λ _. index < page_count bytes.now) }
+    ensures within { IfSome result (λ _. index < record_count bytes.now) }
     ensures valid { IfSome result (λ _. IsBodyRecord (body_record index bytes.now)) }
     ensures body { IfSome result (λ found. found.body ≡ body_of (body_record index bytes.now)) }
     ensures kick { IfSome result (λ found. found.kick ≡ kick_of (body_record index bytes.now)) }
-    ensures none { IfNone result (IsBodyPage page bytes.now → index < page_count bytes.now
+    ensures none { IfNone result (IsBodyPage page bytes.now → index < record_count bytes.now
         → ¬ IsBodyRecord (body_record index bytes.now)) }
 {
     let Ok(bodies) = BodyPage::check(bytes, page) else {
@@ -213,7 +213,7 @@ fn open_page<H: Host>(
     requires size { length into.old ≡ PAGE_SIZE }
     ensures size { length into.new ≡ PAGE_SIZE }
     ensures form { OnOk result (IsBodyPage (index / BODIES_PER_PAGE) into.new) }
-    ensures count { OnOk result (page_count into.new ≡ index % BODIES_PER_PAGE) }
+    ensures count { OnOk result (record_count into.new ≡ index % BODIES_PER_PAGE) }
     ensures fresh { OnOk result (index % BODIES_PER_PAGE ≡ 0 → IsZeroPadded BODY_SIZE into.new) }
     ensures read { OnOk result (IsTrue H.meaning.tells → index % BODIES_PER_PAGE ≢ 0
         → into.new ≡ page_of (seen H.meaning cache.old host.old file) (index / BODIES_PER_PAGE)) }
@@ -239,7 +239,7 @@ fn open_page<H: Host>(
 /// Whether a page is of the form and has so many bodies.
 fn has_bodies(bytes: &[u8], page: u64, count: u64) -> bool
     requires { length bytes.now ≡ PAGE_SIZE }
-    ensures { IsTrue result ↔ (IsBodyPage page bytes.now × (page_count bytes.now ≡ count)) }
+    ensures { IsTrue result ↔ (IsBodyPage page bytes.now × (record_count bytes.now ≡ count)) }
 {
     match BodyPage::check(bytes, page) {
         Ok(bodies) => bodies.count() == count,

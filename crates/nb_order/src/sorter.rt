@@ -11,7 +11,7 @@ ghost use Rattle.nb_cache.specs.View.{seen};
 ghost use Rattle.nb_cache.specs.Writes.{RanCached};
 ghost use Rattle.nb_order.specs.Files.{page_of_body, HasBody, IsSortedCopy, IsDouble, IsUnsortable};
 ghost use Rattle.nb_order.specs.Indexes.{AreIndexesOf, AreReadTo, HasFirst, IsCopyOf};
-ghost use Rattle.nb_order.specs.Refusals.{IsUnsorted};
+ghost use Rattle.nb_order.specs.Refusals.{IsSortRefused};
 
 use crate::body_file::{body_at, kicked_at, page_name, push_body};
 use crate::order::Order;
@@ -57,7 +57,7 @@ pub fn reorder<H: Host, O: Order>(
     ensures sorted { OnOk result (IsTrue H.meaning.tells → IsSortedCopy O.rank_of count
         (seen H.meaning cache.old host.old from) (seen H.meaning cache.new host.new to)) }
     ensures damaged { (name : PageNames) → result ≡ Err (OrderError.Damaged name)
-        → IsUnsorted H.meaning O.rank_of cache.old host.old from to count name }
+        → IsSortRefused H.meaning O.rank_of cache.old host.old from to count name }
     ensures ran { RanCached H.meaning OrderError.Fault (to ∷ []) cache.old host.old
         cache.new host.new result }
 {

@@ -10,7 +10,7 @@ pub use Rattle.nb_record.proofs.SameFiles.{same_pages, same_cell_page, same_file
 pub use Rattle.nb_record.proofs.MortonOrder.{own_order, own_front, own_by_id, held_valid, tree_valid, tree_in_box}
 -- the order of bodies
 pub use Rattle.nb_record.proofs.Sorting.{permuted, sorted, only, different_ids}
-pub use Rattle.nb_record.proofs.Orders.{front, in_box_sorted, ranks_rise, same_order, different_permuted}
+pub use Rattle.nb_record.proofs.Orders.{front, unescaped_sorted, ranks_rise, same_order, different_permuted}
 -- tables of cells
 pub use Rattle.nb_record.proofs.Chains.{LeadsOn, leads_on, chain_ends, chain_follows}
 pub use Rattle.nb_record.proofs.Lookups.{cells_end, chain_holds}

@@ -10,7 +10,7 @@ use Rattle.nb_model.specs.declared.body.Body.{Body}
 use Rattle.nb_model.specs.declared.params.Params.{Params}
 use Rattle.nb_model.specs.Octree.{total_mass}
 use Rattle.nb_model.specs.Gravity.{direct_sum}
-use Rattle.nb_model.specs.Leapfrog.{in_box}
+use Rattle.nb_model.specs.Leapfrog.{unescaped}
 use Rattle.nb_key.specs.Morton.{key_at}
 use Rattle.nb_record.specs.declared.cell.Cell.{Cell}
 use Rattle.nb_record.specs.Order.{by_key, sorted_by}
@@ -29,11 +29,11 @@ read_front [] gs j below = absurd (omega arith)
 read_front (b ∷ fs) gs zero below = refl
 read_front (b ∷ fs) gs (suc j) below = read_front fs gs j (omega arith)
 
-pub read_in_box : (bodies : List Body) (j : ℕ) → j < length (in_box bodies) → slice_get (sorted_by by_key bodies) j ≡ slice_get (sorted_by by_key (in_box bodies)) j
-read_in_box bodies j below =
+pub read_unescaped : (bodies : List Body) (j : ℕ) → j < length (unescaped bodies) → slice_get (sorted_by by_key bodies) j ≡ slice_get (sorted_by by_key (unescaped bodies)) j
+read_unescaped bodies j below =
     let out = filter (λ b. b.out) bodies in
     ap (λ l. slice_get l j) (parts bodies)
-    ∙ read_front (sorted_by by_key (in_box bodies)) (sorted_by by_key out) j (omega (arith, length-sorted_by by_key (in_box bodies)))
+    ∙ read_front (sorted_by by_key (unescaped bodies)) (sorted_by by_key out) j (omega (arith, length-sorted_by by_key (unescaped bodies)))
 
 kept : (p : Body → Bool) (b : Body) (bs : List Body) → p b ≡ true → Contains bs b → Contains (filter p bs) b
 kept p b [] is (k, below, at) = absurd (omega arith)
@@ -57,13 +57,13 @@ member_of_cell level key bodies b =
 
 -- ---- those of a cell of the tree
 
-pub cell_within : (params : Params) (bodies : List Body) (level : ℕ) (cell : Cell) → IsTreeCell params (in_box bodies) level cell → cell.first + cell.count ≤ length (in_box bodies)
+pub cell_within : (params : Params) (bodies : List Body) (level : ℕ) (cell : Cell) → IsTreeCell params (unescaped bodies) level cell → cell.first + cell.count ≤ length (unescaped bodies)
 cell_within params bodies level cell is =
-    omega (arith, is.first, is.count, range_within level cell.key (in_box bodies) is.key (inside_box bodies) is.some)
+    omega (arith, is.first, is.count, range_within level cell.key (unescaped bodies) is.key (inside_box bodies) is.some)
 
-pub cell_read : (params : Params) (bodies : List Body) (level : ℕ) (cell : Cell) → IsTreeCell params (in_box bodies) level cell → take cell.count (drop cell.first (sorted_by by_key bodies)) ≡ sorted_by by_key (in_cell level cell.key (in_box bodies))
+pub cell_read : (params : Params) (bodies : List Body) (level : ℕ) (cell : Cell) → IsTreeCell params (unescaped bodies) level cell → take cell.count (drop cell.first (sorted_by by_key bodies)) ≡ sorted_by by_key (in_cell level cell.key (unescaped bodies))
 cell_read params bodies level cell is =
-    let all = in_box bodies in
+    let all = unescaped bodies in
     let order = sorted_by by_key all in
     let out = sorted_by by_key (filter (λ b. b.out) bodies) in
     let within = cell_within params bodies level cell is in
@@ -75,16 +75,16 @@ cell_read params bodies level cell is =
     ∙ ap (λ n. take (length (in_cell level cell.key all)) (drop n order)) is.first
     ∙ cell_range level cell.key all is.key (inside_box bodies) is.some
 
-pub cell_pulls : (params : Params) (bodies : List Body) (p : At) (level : ℕ) (cell : Cell) → IsTreeCell params (in_box bodies) level cell → direct_sum params p (take cell.count (drop cell.first (sorted_by by_key bodies))) ≡ direct_sum params p (in_cell level cell.key (in_box bodies))
+pub cell_pulls : (params : Params) (bodies : List Body) (p : At) (level : ℕ) (cell : Cell) → IsTreeCell params (unescaped bodies) level cell → direct_sum params p (take cell.count (drop cell.first (sorted_by by_key bodies))) ≡ direct_sum params p (in_cell level cell.key (unescaped bodies))
 cell_pulls params bodies p level cell is =
-    let own = in_cell level cell.key (in_box bodies) in
+    let own = in_cell level cell.key (unescaped bodies) in
     ap (direct_sum params p) (cell_read params bodies level cell is)
     ∙ same_direct_sum params p (sorted_by by_key own) own (IsPermutation-sym own (sorted_by by_key own) (permuted by_key own))
 
-pub cell_sums : (f : Body → ℕ) (params : Params) (bodies : List Body) (level : ℕ) (cell : Cell) → IsTreeCell params (in_box bodies) level cell → sum_by f (take cell.count (drop cell.first (sorted_by by_key bodies))) ≡ sum_by f (in_cell level cell.key (in_box bodies))
+pub cell_sums : (f : Body → ℕ) (params : Params) (bodies : List Body) (level : ℕ) (cell : Cell) → IsTreeCell params (unescaped bodies) level cell → sum_by f (take cell.count (drop cell.first (sorted_by by_key bodies))) ≡ sum_by f (in_cell level cell.key (unescaped bodies))
 cell_sums f params bodies level cell is =
-    let own = in_cell level cell.key (in_box bodies) in
+    let own = in_cell level cell.key (unescaped bodies) in
     ap (sum_by f) (cell_read params bodies level cell is) ∙ sum_by-IsPermutation f own (sorted_by by_key own) (permuted by_key own)
 
-pub cell_weighs : (params : Params) (bodies : List Body) (level : ℕ) (cell : Cell) → IsTreeCell params (in_box bodies) level cell → total_mass (take cell.count (drop cell.first (sorted_by by_key bodies))) ≡ cell.mass
+pub cell_weighs : (params : Params) (bodies : List Body) (level : ℕ) (cell : Cell) → IsTreeCell params (unescaped bodies) level cell → total_mass (take cell.count (drop cell.first (sorted_by by_key bodies))) ≡ cell.mass
 cell_weighs params bodies level cell is = cell_sums (λ b. b.mass) params bodies level cell is ∙ sym is.mass

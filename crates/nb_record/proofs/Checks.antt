@@ -6,7 +6,7 @@ use Rattle.std.proofs.lemmas.Bool.Decides.{nat_tests}
 use Rattle.nb_record.specs.declared.header.PageError.{PageError}
 use Rattle.nb_record.specs.declared.header.PageError.TheVariants.{Number, Count, Next}
 use Rattle.nb_record.specs.declared.sizes.TheConstants.{BODIES_PER_PAGE, CELLS_PER_PAGE}
-use Rattle.nb_record.specs.Fields.{word}
+use Rattle.nb_record.specs.Fields.{u64_at}
 use Rattle.nb_record.specs.Pages.{read_cell_page, read_body_page, IsCellPage, IsBodyPage}
 
 -- the four tests of a header
@@ -33,22 +33,22 @@ pub cells_checked : (page : ℕ) (bytes : List ℕ) → (read_cell_page page byt
 cells_checked page bytes = (into, back) where
   into : read_cell_page page bytes ≡ Ok bytes → IsCellPage page bytes
   into is =
-      let each = all_pass (eqb (word 0 bytes) page) (leb (word 8 bytes) CELLS_PER_PAGE) (eqb (word 16 bytes) 0 || ltb page (word 16 bytes)) (eqb (word 24 bytes) 0) bytes is in
-      record { number = eqb-true (word 0 bytes) page each.0; count = leb-true (word 8 bytes) CELLS_PER_PAGE each.1; next = next_is page (word 16 bytes) each.2; zeros = eqb-true (word 24 bytes) 0 each.3 }
+      let each = all_pass (eqb (u64_at 0 bytes) page) (leb (u64_at 8 bytes) CELLS_PER_PAGE) (eqb (u64_at 16 bytes) 0 || ltb page (u64_at 16 bytes)) (eqb (u64_at 24 bytes) 0) bytes is in
+      record { number = eqb-true (u64_at 0 bytes) page each.0; count = leb-true (u64_at 8 bytes) CELLS_PER_PAGE each.1; next = next_is page (u64_at 16 bytes) each.2; zeros = eqb-true (u64_at 24 bytes) 0 each.3 }
 
   back : IsCellPage page bytes → read_cell_page page bytes ≡ Ok bytes
   back is =
-      pass_all (eqb (word 0 bytes) page) (leb (word 8 bytes) CELLS_PER_PAGE) (eqb (word 16 bytes) 0 || ltb page (word 16 bytes)) (eqb (word 24 bytes) 0) bytes
-      (eq-eqb (word 0 bytes) page is.number) (le-leb (word 8 bytes) CELLS_PER_PAGE is.count) (is_next_true page (word 16 bytes) is.next) (eq-eqb (word 24 bytes) 0 is.zeros)
+      pass_all (eqb (u64_at 0 bytes) page) (leb (u64_at 8 bytes) CELLS_PER_PAGE) (eqb (u64_at 16 bytes) 0 || ltb page (u64_at 16 bytes)) (eqb (u64_at 24 bytes) 0) bytes
+      (eq-eqb (u64_at 0 bytes) page is.number) (le-leb (u64_at 8 bytes) CELLS_PER_PAGE is.count) (is_next_true page (u64_at 16 bytes) is.next) (eq-eqb (u64_at 24 bytes) 0 is.zeros)
 
 pub bodies_checked : (page : ℕ) (bytes : List ℕ) → (read_body_page page bytes ≡ Ok bytes) ↔ IsBodyPage page bytes
 bodies_checked page bytes = (into, back) where
   into : read_body_page page bytes ≡ Ok bytes → IsBodyPage page bytes
   into is =
-      let each = all_pass (eqb (word 0 bytes) page) (leb (word 8 bytes) BODIES_PER_PAGE) (eqb (word 16 bytes) 0) (eqb (word 24 bytes) 0) bytes is in
-      record { number = eqb-true (word 0 bytes) page each.0; count = leb-true (word 8 bytes) BODIES_PER_PAGE each.1; next = eqb-true (word 16 bytes) 0 each.2; zeros = eqb-true (word 24 bytes) 0 each.3 }
+      let each = all_pass (eqb (u64_at 0 bytes) page) (leb (u64_at 8 bytes) BODIES_PER_PAGE) (eqb (u64_at 16 bytes) 0) (eqb (u64_at 24 bytes) 0) bytes is in
+      record { number = eqb-true (u64_at 0 bytes) page each.0; count = leb-true (u64_at 8 bytes) BODIES_PER_PAGE each.1; next = eqb-true (u64_at 16 bytes) 0 each.2; zeros = eqb-true (u64_at 24 bytes) 0 each.3 }
 
   back : IsBodyPage page bytes → read_body_page page bytes ≡ Ok bytes
   back is =
-      pass_all (eqb (word 0 bytes) page) (leb (word 8 bytes) BODIES_PER_PAGE) (eqb (word 16 bytes) 0) (eqb (word 24 bytes) 0) bytes
-      (eq-eqb (word 0 bytes) page is.number) (le-leb (word 8 bytes) BODIES_PER_PAGE is.count) (eq-eqb (word 16 bytes) 0 is.next) (eq-eqb (word 24 bytes) 0 is.zeros)
+      pass_all (eqb (u64_at 0 bytes) page) (leb (u64_at 8 bytes) BODIES_PER_PAGE) (eqb (u64_at 16 bytes) 0) (eqb (u64_at 24 bytes) 0) bytes
+      (eq-eqb (u64_at 0 bytes) page is.number) (le-leb (u64_at 8 bytes) BODIES_PER_PAGE is.count) (eq-eqb (u64_at 16 bytes) 0 is.next) (eq-eqb (u64_at 24 bytes) 0 is.zeros)

@@ -12,7 +12,7 @@ use Rattle.nb_model.specs.declared.way.Way.{Way}
 use Rattle.nb_model.specs.Limits.{deepest_level}
 use Rattle.nb_model.specs.Octree.{octant_at, in_octant, total_mass, centre_of_mass}
 use Rattle.nb_model.specs.Gravity.{octants}
-use Rattle.nb_model.specs.Leapfrog.{in_box, half_kick, accelerate, kick}
+use Rattle.nb_model.specs.Leapfrog.{unescaped, half_kick, accelerate, kick}
 use Rattle.nb_model.proofs.Facts.{sum_by_agree, sum_by-map, filter-map}
 use Rattle.nb_model.proofs.Facts.{accelerated}
 use Rattle.nb_key.specs.Morton.{key_of, morton_key}
@@ -102,5 +102,5 @@ cells_kept params way change all (suc depth) path (b ∷ bs) =
 pub kicked_tree : (params kicks : Params) (way : Way) (bodies : List Body) → tree_cells params (kick kicks way bodies) ≡ tree_cells params bodies
 kicked_tree params kicks way bodies =
     let change = half_kick kicks bodies in
-    let inside : in_box (kick kicks way bodies) ≡ accelerated way change (in_box bodies) = filter-map (λ b. not b.out) (λ b. accelerate way (change b) b) bodies in
-    ap (λ l. cells_to_depth params l 21 [] l) inside ∙ cells_kept params way change (in_box bodies) 21 [] (in_box bodies)
+    let inside : unescaped (kick kicks way bodies) ≡ accelerated way change (unescaped bodies) = filter-map (λ b. not b.out) (λ b. accelerate way (change b) b) bodies in
+    ap (λ l. cells_to_depth params l 21 [] l) inside ∙ cells_kept params way change (unescaped bodies) 21 [] (unescaped bodies)

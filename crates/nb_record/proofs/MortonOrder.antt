@@ -10,21 +10,21 @@ use Rattle.std.proofs.lemmas.Option.{get_or_from_slice_get}
 use Rattle.nb_model.specs.declared.body.Body.{Body}
 use Rattle.nb_model.specs.declared.params.Params.{Params}
 use Rattle.nb_model.specs.Valid.{IsInBox, IsValidBody}
-use Rattle.nb_model.specs.Leapfrog.{in_box}
+use Rattle.nb_model.specs.Leapfrog.{unescaped}
 use Rattle.nb_record.specs.declared.tree.Tree.{Tree}
 use Rattle.nb_record.specs.Records.{body_of}
 use Rattle.nb_record.specs.Order.{by_key, by_id, sorted_by, IsSortedByRank, record_of, HoldsBodies}
 use Rattle.nb_record.specs.Tree.{IsTreeOf}
 use Rattle.nb_record.proofs.Sorting.{only, permuted}
-use Rattle.nb_record.proofs.Orders.{front, in_box_sorted}
+use Rattle.nb_record.proofs.Orders.{front, unescaped_sorted}
 
 pub own_order : (rank : Body → ℕ) (bodies : List Body) → IsSortedByRank rank bodies → bodies ≡ sorted_by rank bodies
 own_order rank bodies is = only rank bodies bodies (IsPermutation-refl bodies) is
 
-pub own_front : (bodies : List Body) → IsSortedByRank by_key bodies → take (length (in_box bodies)) bodies ≡ in_box bodies
+pub own_front : (bodies : List Body) → IsSortedByRank by_key bodies → take (length (unescaped bodies)) bodies ≡ unescaped bodies
 own_front bodies is =
     let own = own_order by_key bodies is in
-    ap (take (length (in_box bodies))) own ∙ front bodies ∙ sym (in_box_sorted bodies) ∙ ap in_box (sym own)
+    ap (take (length (unescaped bodies))) own ∙ front bodies ∙ sym (unescaped_sorted bodies) ∙ ap unescaped (sym own)
 
 pub held_valid : (file : List ℕ) (bodies : List Body) → HoldsBodies file bodies → All IsValidBody bodies
 held_valid file bodies has k d below =

@@ -8,7 +8,7 @@ use Rattle.std.proofs.lemmas.List.{take_at, drop_at}
 use Rattle.std.proofs.lemmas.List.Elements.{All-same, All-weaker, filter-append, filter_agree, filter_passes}
 use Rattle.std.proofs.lemmas.List.Sorted.{All-permutation, IsPermutation-sym, IsPermutation-trans}
 use Rattle.nb_model.specs.declared.body.Body.{Body}
-use Rattle.nb_model.specs.Leapfrog.{in_box}
+use Rattle.nb_model.specs.Leapfrog.{unescaped}
 use Rattle.nb_key.specs.Morton.{morton_key}
 use Rattle.nb_key.proofs.Levels.{key_fits}
 use Rattle.nb_key.proofs.Paths.{key_is}
@@ -30,43 +30,43 @@ not_twice : (t : Bool) → not (not t) ≡ t
 not_twice true = refl
 not_twice false = refl
 
-inside : (bs : List Body) → filter (is_below by_key (2 ^ 64)) bs ≡ in_box bs
+inside : (bs : List Body) → filter (is_below by_key (2 ^ 64)) bs ≡ unescaped bs
 inside bs = filter_agree (is_below by_key (2 ^ 64)) (λ b. not b.out) (λ b. inside_below b.out (morton_key b.at) (morton_key-lt b)) bs
 
 outside : (bs : List Body) → filter (isnt_below by_key (2 ^ 64)) bs ≡ filter (λ b. b.out) bs
 outside bs =
     filter_agree (isnt_below by_key (2 ^ 64)) (λ b. b.out) (λ b. ap not (inside_below b.out (morton_key b.at) (morton_key-lt b)) ∙ not_twice b.out) bs
 
-pub parts : (bs : List Body) → sorted_by by_key bs ≡ sorted_by by_key (in_box bs) ++ sorted_by by_key (filter (λ b. b.out) bs)
+pub parts : (bs : List Body) → sorted_by by_key bs ≡ sorted_by by_key (unescaped bs) ++ sorted_by by_key (filter (λ b. b.out) bs)
 parts bs =
     sorted_split by_key (2 ^ 64) bs
     ∙ ap (λ l. sorted_by by_key l ++ sorted_by by_key (filter (isnt_below by_key (2 ^ 64)) bs)) (inside bs)
-    ∙ ap (λ l. sorted_by by_key (in_box bs) ++ sorted_by by_key l) (outside bs)
+    ∙ ap (λ l. sorted_by by_key (unescaped bs) ++ sorted_by by_key l) (outside bs)
 
-pub front : (bs : List Body) → take (length (in_box bs)) (sorted_by by_key bs) ≡ sorted_by by_key (in_box bs)
+pub front : (bs : List Body) → take (length (unescaped bs)) (sorted_by by_key bs) ≡ sorted_by by_key (unescaped bs)
 front bs =
-    ap (take (length (in_box bs))) (parts bs)
-    ∙ take_at (sorted_by by_key (in_box bs)) (sorted_by by_key (filter (λ b. b.out) bs)) (length (in_box bs)) (length-sorted_by by_key (in_box bs))
+    ap (take (length (unescaped bs))) (parts bs)
+    ∙ take_at (sorted_by by_key (unescaped bs)) (sorted_by by_key (filter (λ b. b.out) bs)) (length (unescaped bs)) (length-sorted_by by_key (unescaped bs))
 
 pub stayed : (out : Bool) → not out ≡ true → out ≡ false
 stayed true stays = absurd (cc)
 stayed false stays = refl
 
-pub present : (bs : List Body) → All (λ b. b.out ≡ false) (take (length (in_box bs)) (sorted_by by_key bs))
+pub present : (bs : List Body) → All (λ b. b.out ≡ false) (take (length (unescaped bs)) (sorted_by by_key bs))
 present bs =
-    All-same (λ b. b.out ≡ false) (take (length (in_box bs)) (sorted_by by_key bs)) (sorted_by by_key (in_box bs)) (front bs)
-    (All-permutation (λ b. b.out ≡ false) (in_box bs) (sorted_by by_key (in_box bs)) (permuted by_key (in_box bs))
-    (All-weaker (λ b. not b.out ≡ true) (λ b. b.out ≡ false) (λ b stays. stayed b.out stays) (in_box bs) (filter_passes (λ b. not b.out) bs)))
+    All-same (λ b. b.out ≡ false) (take (length (unescaped bs)) (sorted_by by_key bs)) (sorted_by by_key (unescaped bs)) (front bs)
+    (All-permutation (λ b. b.out ≡ false) (unescaped bs) (sorted_by by_key (unescaped bs)) (permuted by_key (unescaped bs))
+    (All-weaker (λ b. not b.out ≡ true) (λ b. b.out ≡ false) (λ b stays. stayed b.out stays) (unescaped bs) (filter_passes (λ b. not b.out) bs)))
 
-pub back : (bs : List Body) → drop (length (in_box bs)) (sorted_by by_key bs) ≡ sorted_by by_key (filter (λ b. b.out) bs)
+pub back : (bs : List Body) → drop (length (unescaped bs)) (sorted_by by_key bs) ≡ sorted_by by_key (filter (λ b. b.out) bs)
 back bs =
-    ap (drop (length (in_box bs))) (parts bs)
-    ∙ drop_at (sorted_by by_key (in_box bs)) (sorted_by by_key (filter (λ b. b.out) bs)) (length (in_box bs)) (length-sorted_by by_key (in_box bs))
+    ap (drop (length (unescaped bs))) (parts bs)
+    ∙ drop_at (sorted_by by_key (unescaped bs)) (sorted_by by_key (filter (λ b. b.out) bs)) (length (unescaped bs)) (length-sorted_by by_key (unescaped bs))
 
-pub escaped : (bs : List Body) → All (λ b. b.out ≡ true) (drop (length (in_box bs)) (sorted_by by_key bs))
+pub escaped : (bs : List Body) → All (λ b. b.out ≡ true) (drop (length (unescaped bs)) (sorted_by by_key bs))
 escaped bs =
     let out = filter (λ b. b.out) bs in
-    All-same (λ b. b.out ≡ true) (drop (length (in_box bs)) (sorted_by by_key bs)) (sorted_by by_key out) (back bs)
+    All-same (λ b. b.out ≡ true) (drop (length (unescaped bs)) (sorted_by by_key bs)) (sorted_by by_key out) (back bs)
     (All-permutation (λ b. b.out ≡ true) out (sorted_by by_key out) (permuted by_key out) (filter_passes (λ b. b.out) bs))
 
 -- ---- ranks don't fall
@@ -164,15 +164,15 @@ none_kept : (p : Body → Bool) (bs : List Body) → Each (λ b. p b ≡ false) 
 none_kept p [] each = refl
 none_kept p (b ∷ bs) each = filter_no p b bs each.0 ∙ none_kept p bs each.1
 
-pub in_box_sorted : (bs : List Body) → in_box (sorted_by by_key bs) ≡ sorted_by by_key (in_box bs)
-in_box_sorted bs =
+pub unescaped_sorted : (bs : List Body) → unescaped (sorted_by by_key bs) ≡ sorted_by by_key (unescaped bs)
+unescaped_sorted bs =
     let stays = λ (b : Body). not b.out in
     let out = filter (λ b. b.out) bs in
-    let here : Each (λ b. stays b ≡ true) (sorted_by by_key (in_box bs)) = each_sorted (λ b. stays b ≡ true) by_key (in_box bs) (each_kept stays bs) in
+    let here : Each (λ b. stays b ≡ true) (sorted_by by_key (unescaped bs)) = each_sorted (λ b. stays b ≡ true) by_key (unescaped bs) (each_kept stays bs) in
     let gone : Each (λ b. stays b ≡ false) (sorted_by by_key out) =
     each_sorted (λ b. stays b ≡ false) by_key out (each_implied (λ b. b.out ≡ true) (λ b. stays b ≡ false) out (λ b is. ap not is) (each_kept (λ b. b.out) bs)) in
     ap (filter stays) (parts bs)
-    ∙ filter-append stays (sorted_by by_key (in_box bs)) (sorted_by by_key out)
-    ∙ ap (λ l. l ++ filter stays (sorted_by by_key out)) (kept_whole stays (sorted_by by_key (in_box bs)) here)
-    ∙ ap (λ l. sorted_by by_key (in_box bs) ++ l) (none_kept stays (sorted_by by_key out) gone)
-    ∙ append-nil (sorted_by by_key (in_box bs))
+    ∙ filter-append stays (sorted_by by_key (unescaped bs)) (sorted_by by_key out)
+    ∙ ap (λ l. l ++ filter stays (sorted_by by_key out)) (kept_whole stays (sorted_by by_key (unescaped bs)) here)
+    ∙ ap (λ l. sorted_by by_key (unescaped bs) ++ l) (none_kept stays (sorted_by by_key out) gone)
+    ∙ append-nil (sorted_by by_key (unescaped bs))

@@ -8,7 +8,7 @@ use Rattle.std.proofs.lemmas.List.{length-append, take_at, drop_at}
 use Rattle.std.proofs.lemmas.List.Sorted.{sum_by-IsPermutation}
 use Rattle.std.proofs.lemmas.List.Sums.{length-filter}
 use Rattle.nb_model.specs.declared.body.Body.{Body}
-use Rattle.nb_model.specs.Leapfrog.{in_box}
+use Rattle.nb_model.specs.Leapfrog.{unescaped}
 use Rattle.nb_key.specs.Morton.{key_at, morton_key, IsKeyAt, first_key, last_key}
 use Rattle.nb_key.proofs.Levels.{eight_pos}
 use Rattle.nb_key.proofs.Ranges.{in_range}
@@ -85,8 +85,8 @@ by_key_inside b is = inside_rank b.out (morton_key b.at) is
 abbrev pub Inside : List Body → Type 0
 Inside bs = Each (λ b. b.out ≡ false) bs
 
-pub inside_box : (bs : List Body) → Inside (in_box bs)
-inside_box bs = each_implied (λ b. not b.out ≡ true) (λ b. b.out ≡ false) (in_box bs) (λ b stays. stayed b.out stays) (each_kept (λ b. not b.out) bs)
+pub inside_box : (bs : List Body) → Inside (unescaped bs)
+inside_box bs = each_implied (λ b. not b.out ≡ true) (λ b. b.out ≡ false) (unescaped bs) (λ b stays. stayed b.out stays) (each_kept (λ b. not b.out) bs)
 
 pub cell_test : (level key : ℕ) → IsKeyAt level key → (b : Body) → b.out ≡ false → (isnt_below by_key (first_key level key) b && is_below by_key (next_key level key) b) ≡ eqb (key_at level b.at) key
 cell_test level key is b stays =

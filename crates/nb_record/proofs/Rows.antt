@@ -12,30 +12,30 @@ use Rattle.nb_model.specs.Valid.{IsBelow, IsValidBody}
 use Rattle.nb_record.specs.declared.cell.Cell.{Cell}
 use Rattle.nb_host.specs.declared.page_name.TheConstants.{PAGE_SIZE}
 use Rattle.nb_record.specs.declared.sizes.TheConstants.{BODY_SIZE, CELL_SIZE, KICK_AT, BODIES_PER_PAGE, CELLS_PER_PAGE}
-use Rattle.nb_record.specs.Fields.{word, short, signed_word, word_bytes, short_bytes, written}
-use Rattle.nb_record.specs.Pages.{page_count}
+use Rattle.nb_record.specs.Fields.{u64_at, u32_at, i64_at, u64_bytes, u32_bytes, written}
+use Rattle.nb_record.specs.Pages.{record_count}
 use Rattle.nb_record.specs.Records.{body_of, kick_of, record_bytes, IsBodyRecord, FitsBodyRecord, cell_of, cell_bytes, FitsCellRecord}
-use Rattle.nb_record.proofs.Writes.{length-word_bytes, length-short_bytes, word_first, short_first, word_past, short_past, word_front, short_front, written_twice}
+use Rattle.nb_record.proofs.Writes.{length-u64_bytes, length-u32_bytes, word_first, short_first, word_past, short_past, word_front, short_front, written_twice}
 use Rattle.nb_record.proofs.Adding.{HasRoom}
 
 -- ---- eight words in a row
 
 -- the word after the first
-word_after_first : (n k : ℕ) (rest : List ℕ) → word (8 + k) (word_bytes n ++ rest) ≡ word k rest
-word_after_first n k rest = word_past (word_bytes n) rest 8 k (length-word_bytes n)
+word_after_first : (n k : ℕ) (rest : List ℕ) → u64_at (8 + k) (u64_bytes n ++ rest) ≡ u64_at k rest
+word_after_first n k rest = word_past (u64_bytes n) rest 8 k (length-u64_bytes n)
 
-length-row : (n : ℕ) (rest : List ℕ) → length (word_bytes n ++ rest) ≡ 8 + length rest
-length-row n rest = omega (arith, length-append (word_bytes n) rest, length-word_bytes n)
+length-row : (n : ℕ) (rest : List ℕ) → length (u64_bytes n ++ rest) ≡ 8 + length rest
+length-row n rest = omega (arith, length-append (u64_bytes n) rest, length-u64_bytes n)
 
-pub row_length : (ws : List ℕ) → length (flat_map word_bytes ws) ≡ 8 * length ws
+pub row_length : (ws : List ℕ) → length (flat_map u64_bytes ws) ≡ 8 * length ws
 row_length [] = omega arith
-row_length (w ∷ ws) = omega (arith, length-row w (flat_map word_bytes ws), row_length ws)
+row_length (w ∷ ws) = omega (arith, length-row w (flat_map u64_bytes ws), row_length ws)
 
-word_0 : (a : ℕ) (ws : List ℕ) → a < 2 ^ 64 → word 0 (flat_map word_bytes (a ∷ ws)) ≡ a
-word_0 a ws fits = word_first a (flat_map word_bytes ws) fits
+word_0 : (a : ℕ) (ws : List ℕ) → a < 2 ^ 64 → u64_at 0 (flat_map u64_bytes (a ∷ ws)) ≡ a
+word_0 a ws fits = word_first a (flat_map u64_bytes ws) fits
 
-word_more : (k a b : ℕ) (ws : List ℕ) → word k (flat_map word_bytes ws) ≡ b → word (8 + k) (flat_map word_bytes (a ∷ ws)) ≡ b
-word_more k a b ws is = word_after_first a k (flat_map word_bytes ws) ∙ is
+word_more : (k a b : ℕ) (ws : List ℕ) → u64_at k (flat_map u64_bytes ws) ≡ b → u64_at (8 + k) (flat_map u64_bytes (a ∷ ws)) ≡ b
+word_more k a b ws is = word_after_first a k (flat_map u64_bytes ws) ∙ is
 
 -- ---- cells
 
@@ -68,7 +68,7 @@ cell_round c is =
       kids = kids i;
     }
 
-pub cell_room : (c : Cell) (bytes : List ℕ) → length bytes ≡ PAGE_SIZE → page_count bytes < CELLS_PER_PAGE → HasRoom CELL_SIZE (cell_bytes c) bytes
+pub cell_room : (c : Cell) (bytes : List ℕ) → length bytes ≡ PAGE_SIZE → record_count bytes < CELLS_PER_PAGE → HasRoom CELL_SIZE (cell_bytes c) bytes
 cell_room c bytes long room = record { fits = cell_size c; room = omega arith; count = omega arith }
 
 -- ---- bodies
@@ -85,46 +85,46 @@ abbrev pub words_of : V3 → List ℕ
 words_of v = cast_unsigned w64 v.x ∷ cast_unsigned w64 v.y ∷ cast_unsigned w64 v.z ∷ []
 
 -- A vector is its words in a row: byteorder's bytes of a number are std's.
-pub vector_row : (v : V3) → vector_bytes v ≡ flat_map word_bytes (words_of v)
-unfolding word_bytes
+pub vector_row : (v : V3) → vector_bytes v ≡ flat_map u64_bytes (words_of v)
+unfolding u64_bytes
 vector_row v = refl
 
 -- a body is its fields in a row
-pub body_row : (b : Body) → body_bytes b ≡ word_bytes b.id ++ short_bytes b.mass ++ short_bytes (flag_of b.out) ++ flat_map word_bytes (tail_of b)
-unfolding body_bytes word_bytes short_bytes
+pub body_row : (b : Body) → body_bytes b ≡ u64_bytes b.id ++ u32_bytes b.mass ++ u32_bytes (flag_of b.out) ++ flat_map u64_bytes (tail_of b)
+unfolding body_bytes u64_bytes u32_bytes
 body_row b = refl
 
 -- the fields, grouped from the right
-grouped : (b : Body) → body_bytes b ≡ word_bytes b.id ++ (short_bytes b.mass ++ (short_bytes (flag_of b.out) ++ flat_map word_bytes (tail_of b)))
+grouped : (b : Body) → body_bytes b ≡ u64_bytes b.id ++ (u32_bytes b.mass ++ (u32_bytes (flag_of b.out) ++ flat_map u64_bytes (tail_of b)))
 grouped b =
     body_row b
-    ∙ append_assoc (word_bytes b.id ++ short_bytes b.mass) (short_bytes (flag_of b.out)) (flat_map word_bytes (tail_of b))
-    ∙ append_assoc (word_bytes b.id) (short_bytes b.mass) (short_bytes (flag_of b.out) ++ flat_map word_bytes (tail_of b))
+    ∙ append_assoc (u64_bytes b.id ++ u32_bytes b.mass) (u32_bytes (flag_of b.out)) (flat_map u64_bytes (tail_of b))
+    ∙ append_assoc (u64_bytes b.id) (u32_bytes b.mass) (u32_bytes (flag_of b.out) ++ flat_map u64_bytes (tail_of b))
 
 pub body_size : (b : Body) → length (body_bytes b) ≡ KICK_AT
 body_size b =
     omega (
       arith,
       ap length (body_row b),
-      length-append (word_bytes b.id ++ short_bytes b.mass ++ short_bytes (flag_of b.out)) (flat_map word_bytes (tail_of b)),
-      length-append (word_bytes b.id ++ short_bytes b.mass) (short_bytes (flag_of b.out)),
-      length-append (word_bytes b.id) (short_bytes b.mass),
-      length-word_bytes b.id,
-      length-short_bytes b.mass,
-      length-short_bytes (flag_of b.out),
+      length-append (u64_bytes b.id ++ u32_bytes b.mass ++ u32_bytes (flag_of b.out)) (flat_map u64_bytes (tail_of b)),
+      length-append (u64_bytes b.id ++ u32_bytes b.mass) (u32_bytes (flag_of b.out)),
+      length-append (u64_bytes b.id) (u32_bytes b.mass),
+      length-u64_bytes b.id,
+      length-u32_bytes b.mass,
+      length-u32_bytes (flag_of b.out),
       row_length (tail_of b),
     )
 
 -- a word of the row behind the flag
-tail_word : (b : Body) (k n : ℕ) → word k (flat_map word_bytes (tail_of b)) ≡ n → word (16 + k) (body_bytes b) ≡ n
+tail_word : (b : Body) (k n : ℕ) → u64_at k (flat_map u64_bytes (tail_of b)) ≡ n → u64_at (16 + k) (body_bytes b) ≡ n
 tail_word b k n is =
-    let behind = short_bytes (flag_of b.out) ++ flat_map word_bytes (tail_of b) in
+    let behind = u32_bytes (flag_of b.out) ++ flat_map u64_bytes (tail_of b) in
     let whole : 16 + k ≡ 8 + (4 + (4 + k)) = omega arith in
-    ap (word (16 + k)) (grouped b)
-    ∙ ap (λ j. word j (word_bytes b.id ++ (short_bytes b.mass ++ behind))) whole
-    ∙ word_past (word_bytes b.id) (short_bytes b.mass ++ behind) 8 (4 + (4 + k)) (length-word_bytes b.id)
-    ∙ word_past (short_bytes b.mass) behind 4 (4 + k) (length-short_bytes b.mass)
-    ∙ word_past (short_bytes (flag_of b.out)) (flat_map word_bytes (tail_of b)) 4 k (length-short_bytes (flag_of b.out))
+    ap (u64_at (16 + k)) (grouped b)
+    ∙ ap (λ j. u64_at j (u64_bytes b.id ++ (u32_bytes b.mass ++ behind))) whole
+    ∙ word_past (u64_bytes b.id) (u32_bytes b.mass ++ behind) 8 (4 + (4 + k)) (length-u64_bytes b.id)
+    ∙ word_past (u32_bytes b.mass) behind 4 (4 + k) (length-u32_bytes b.mass)
+    ∙ word_past (u32_bytes (flag_of b.out)) (flat_map u64_bytes (tail_of b)) 4 k (length-u32_bytes (flag_of b.out))
     ∙ is
 
 flag_fits : (out : Bool) → flag_of out < 2 ^ 32
@@ -143,23 +143,23 @@ unsigned_fits : (z : ℤ) → FitsSigned w64 z → cast_unsigned w64 z < 2 ^ 64
 unsigned_fits (pos n) fits = omega (arith, fits.sfits)
 unsigned_fits (negsuc n) fits = omega (arith, fits.sfits)
 
-body_flag : (b : Body) → short 12 (body_bytes b) ≡ flag_of b.out
+body_flag : (b : Body) → u32_at 12 (body_bytes b) ≡ flag_of b.out
 body_flag b =
-    let behind = short_bytes (flag_of b.out) ++ flat_map word_bytes (tail_of b) in
-    ap (short 12) (grouped b)
-    ∙ short_past (word_bytes b.id) (short_bytes b.mass ++ behind) 8 4 (length-word_bytes b.id)
-    ∙ short_past (short_bytes b.mass) behind 4 0 (length-short_bytes b.mass)
-    ∙ short_first (flag_of b.out) (flat_map word_bytes (tail_of b)) (flag_fits b.out)
+    let behind = u32_bytes (flag_of b.out) ++ flat_map u64_bytes (tail_of b) in
+    ap (u32_at 12) (grouped b)
+    ∙ short_past (u64_bytes b.id) (u32_bytes b.mass ++ behind) 8 4 (length-u64_bytes b.id)
+    ∙ short_past (u32_bytes b.mass) behind 4 0 (length-u32_bytes b.mass)
+    ∙ short_first (flag_of b.out) (flat_map u64_bytes (tail_of b)) (flag_fits b.out)
 
-body_mass : (b : Body) → b.mass < 2 ^ 32 → short 8 (body_bytes b) ≡ b.mass
+body_mass : (b : Body) → b.mass < 2 ^ 32 → u32_at 8 (body_bytes b) ≡ b.mass
 body_mass b fits =
-    let behind = short_bytes (flag_of b.out) ++ flat_map word_bytes (tail_of b) in
-    ap (short 8) (grouped b)
-    ∙ short_past (word_bytes b.id) (short_bytes b.mass ++ behind) 8 0 (length-word_bytes b.id)
+    let behind = u32_bytes (flag_of b.out) ++ flat_map u64_bytes (tail_of b) in
+    ap (u32_at 8) (grouped b)
+    ∙ short_past (u64_bytes b.id) (u32_bytes b.mass ++ behind) 8 0 (length-u64_bytes b.id)
     ∙ short_first b.mass behind fits
 
-body_id : (b : Body) → b.id < 2 ^ 64 → word 0 (body_bytes b) ≡ b.id
-body_id b fits = ap (word 0) (grouped b) ∙ word_first b.id (short_bytes b.mass ++ (short_bytes (flag_of b.out) ++ flat_map word_bytes (tail_of b))) fits
+body_id : (b : Body) → b.id < 2 ^ 64 → u64_at 0 (body_bytes b) ≡ b.id
+body_id b fits = ap (u64_at 0) (grouped b) ∙ word_first b.id (u32_bytes b.mass ++ (u32_bytes (flag_of b.out) ++ flat_map u64_bytes (tail_of b))) fits
 
 pub body_round : (b : Body) → FitsBodyRecord b → body_of (body_bytes b) ≡ b
 body_round b fits =
@@ -173,16 +173,16 @@ body_round b fits =
     let uz = cast_unsigned w64 b.v.z in
     let id = body_id b fits.id in
     let mass = body_mass b fits.mass in
-    let out : eqb (short 12 (body_bytes b)) 1 ≡ b.out = ap (λ f. eqb f 1) (body_flag b) ∙ flag_back b.out in
+    let out : eqb (u32_at 12 (body_bytes b)) 1 ≡ b.out = ap (λ f. eqb f 1) (body_flag b) ∙ flag_back b.out in
     let x = tail_word b 0 b.at.x (word_0 b.at.x from_y fits.x) in
     let y = tail_word b 8 b.at.y (word_more 0 b.at.x b.at.y from_y (word_0 b.at.y from_z fits.y)) in
     let z = tail_word b 16 b.at.z (word_more 8 b.at.x b.at.z from_y (word_more 0 b.at.y b.at.z from_z (word_0 b.at.z from_vx fits.z))) in
     let wx = tail_word b 24 ux (word_more 16 b.at.x ux from_y (word_more 8 b.at.y ux from_z (word_more 0 b.at.z ux from_vx (word_0 ux from_vy (unsigned_fits b.v.x fits.velocity_x))))) in
     let wy = tail_word b 32 uy (word_more 24 b.at.x uy from_y (word_more 16 b.at.y uy from_z (word_more 8 b.at.z uy from_vx (word_more 0 ux uy from_vy (word_0 uy from_vz (unsigned_fits b.v.y fits.velocity_y)))))) in
     let wz = tail_word b 40 uz (word_more 32 b.at.x uz from_y (word_more 24 b.at.y uz from_z (word_more 16 b.at.z uz from_vx (word_more 8 ux uz from_vy (word_more 0 uy uz from_vz (word_0 uz [] (unsigned_fits b.v.z fits.velocity_z))))))) in
-    let vx : signed_word 40 (body_bytes b) ≡ b.v.x = ap (cast_signed w64) wx ∙ to_z-of_z w64 b.v.x fits.velocity_x in
-    let vy : signed_word 48 (body_bytes b) ≡ b.v.y = ap (cast_signed w64) wy ∙ to_z-of_z w64 b.v.y fits.velocity_y in
-    let vz : signed_word 56 (body_bytes b) ≡ b.v.z = ap (cast_signed w64) wz ∙ to_z-of_z w64 b.v.z fits.velocity_z in
+    let vx : i64_at 40 (body_bytes b) ≡ b.v.x = ap (cast_signed w64) wx ∙ to_z-of_z w64 b.v.x fits.velocity_x in
+    let vy : i64_at 48 (body_bytes b) ≡ b.v.y = ap (cast_signed w64) wy ∙ to_z-of_z w64 b.v.y fits.velocity_y in
+    let vz : i64_at 56 (body_bytes b) ≡ b.v.z = ap (cast_signed w64) wz ∙ to_z-of_z w64 b.v.z fits.velocity_z in
     λ i. record {
       id = id i;
       mass = mass i;
@@ -228,8 +228,8 @@ axis_fits : (z : ℤ) → unsigned_abs z < kick_limit → FitsSigned w64 z
 axis_fits z below = fits_signed_from_abs w64 z (omega arith)
 
 -- a word of the kick, read as a number with a sign
-kick_axis : (b : Body) (kick : V3) (k : ℕ) (z : ℤ) → unsigned_abs z < kick_limit → word k (vector_bytes kick) ≡ cast_unsigned w64 z
-    → signed_word (KICK_AT + k) (record_bytes b kick) ≡ z
+kick_axis : (b : Body) (kick : V3) (k : ℕ) (z : ℤ) → unsigned_abs z < kick_limit → u64_at k (vector_bytes kick) ≡ cast_unsigned w64 z
+    → i64_at (KICK_AT + k) (record_bytes b kick) ≡ z
 kick_axis b kick k z below is =
     ap (cast_signed w64) (word_past (body_bytes b) (vector_bytes kick) KICK_AT k (body_size b) ∙ is)
     ∙ to_z-of_z w64 z (axis_fits z below)
@@ -239,9 +239,9 @@ record_kick b kick below =
     let ux = cast_unsigned w64 kick.x in
     let uy = cast_unsigned w64 kick.y in
     let uz = cast_unsigned w64 kick.z in
-    let wx = ap (word 0) (vector_row kick) ∙ word_0 ux (uy ∷ uz ∷ []) (unsigned_fits kick.x (axis_fits kick.x below.x)) in
-    let wy = ap (word 8) (vector_row kick) ∙ word_more 0 ux uy (uy ∷ uz ∷ []) (word_0 uy (uz ∷ []) (unsigned_fits kick.y (axis_fits kick.y below.y))) in
-    let wz = ap (word 16) (vector_row kick) ∙ word_more 8 ux uz (uy ∷ uz ∷ []) (word_more 0 uy uz (uz ∷ []) (word_0 uz [] (unsigned_fits kick.z (axis_fits kick.z below.z)))) in
+    let wx = ap (u64_at 0) (vector_row kick) ∙ word_0 ux (uy ∷ uz ∷ []) (unsigned_fits kick.x (axis_fits kick.x below.x)) in
+    let wy = ap (u64_at 8) (vector_row kick) ∙ word_more 0 ux uy (uy ∷ uz ∷ []) (word_0 uy (uz ∷ []) (unsigned_fits kick.y (axis_fits kick.y below.y))) in
+    let wz = ap (u64_at 16) (vector_row kick) ∙ word_more 8 ux uz (uy ∷ uz ∷ []) (word_more 0 uy uz (uz ∷ []) (word_0 uz [] (unsigned_fits kick.z (axis_fits kick.z below.z)))) in
     let x = kick_axis b kick 0 kick.x below.x wx in
     let y = kick_axis b kick 8 kick.y below.y wy in
     let z = kick_axis b kick 16 kick.z below.z wz in
@@ -256,7 +256,7 @@ record_form b kick valid fits below =
       kick = subst (IsBelow kick_limit) (sym (record_kick b kick below)) below;
     }
 
-pub record_room : (b : Body) (kick : V3) (bytes : List ℕ) → length bytes ≡ PAGE_SIZE → page_count bytes < BODIES_PER_PAGE → HasRoom BODY_SIZE (record_bytes b kick) bytes
+pub record_room : (b : Body) (kick : V3) (bytes : List ℕ) → length bytes ≡ PAGE_SIZE → record_count bytes < BODIES_PER_PAGE → HasRoom BODY_SIZE (record_bytes b kick) bytes
 record_room b kick bytes long room = record { fits = record_size b kick; room = omega arith; count = omega arith }
 
 -- a body and its kick, written one behind the other, are the record

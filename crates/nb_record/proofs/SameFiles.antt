@@ -17,8 +17,8 @@ use Rattle.nb_record.specs.declared.cell.Cell.{Cell}
 use Rattle.nb_host.specs.declared.page_name.TheConstants.{PAGE_SIZE}
 use Rattle.nb_host.specs.Page.{page_start, page_of}
 use Rattle.nb_record.specs.declared.sizes.TheConstants.{HEADER_SIZE, BODY_SIZE, CELL_SIZE, KICK_AT, BODIES_PER_PAGE}
-use Rattle.nb_record.specs.Fields.{word, short, signed_word}
-use Rattle.nb_record.specs.Pages.{page_number, page_count, page_next, IsCellPage}
+use Rattle.nb_record.specs.Fields.{u64_at, u32_at, i64_at}
+use Rattle.nb_record.specs.Pages.{page_number, record_count, page_next, IsCellPage}
 use Rattle.nb_record.specs.Records.{body_record, body_of, kick_of, IsBodyRecord, cell_record, cell_of, cells_of}
 use Rattle.nb_record.specs.Writing.{records_end, IsZeroPadded, IsZeroPaddedFile, AreBytes}
 use Rattle.nb_record.specs.Order.{pages_for, record_of, HoldsKickedBodies}
@@ -61,23 +61,23 @@ same_field n at xs ys sx sy same k from to =
     ∙ get_or-drop at ys (k - at) 0
     ∙ ap (λ j. get_or ys j 0) whole
 
-same_word : (at : ℕ) (xs ys : List ℕ) → Small xs → Small ys → word at xs ≡ word at ys → (k : ℕ) → at ≤ k → k < at + 8 → get_or xs k 0 ≡ get_or ys k 0
-unfolding word
+same_word : (at : ℕ) (xs ys : List ℕ) → Small xs → Small ys → u64_at at xs ≡ u64_at at ys → (k : ℕ) → at ≤ k → k < at + 8 → get_or xs k 0 ≡ get_or ys k 0
+unfolding u64_at
 same_word at xs ys sx sy same k from to = same_field 8 at xs ys sx sy same k from to
 
-same_short : (at : ℕ) (xs ys : List ℕ) → Small xs → Small ys → short at xs ≡ short at ys → (k : ℕ) → at ≤ k → k < at + 4 → get_or xs k 0 ≡ get_or ys k 0
-unfolding short
+same_short : (at : ℕ) (xs ys : List ℕ) → Small xs → Small ys → u32_at at xs ≡ u32_at at ys → (k : ℕ) → at ≤ k → k < at + 4 → get_or xs k 0 ≡ get_or ys k 0
+unfolding u32_at
 same_short at xs ys sx sy same k from to = same_field 4 at xs ys sx sy same k from to
 
-word_small : (at : ℕ) (xs : List ℕ) → Small xs → word at xs < 2 ^ 64
-unfolding word
+word_small : (at : ℕ) (xs : List ℕ) → Small xs → u64_at at xs < 2 ^ 64
+unfolding u64_at
 word_small at xs sx =
     let below = little_from-lt 0 8 (drop at xs) (small-drop at xs sx) in
     omega arith
 
-signed_back : (at : ℕ) (xs ys : List ℕ) → Small xs → Small ys → signed_word at xs ≡ signed_word at ys → word at xs ≡ word at ys
+signed_back : (at : ℕ) (xs ys : List ℕ) → Small xs → Small ys → i64_at at xs ≡ i64_at at ys → u64_at at xs ≡ u64_at at ys
 signed_back at xs ys sx sy same =
-    sym (of_z-to_z w64 (word at xs) (word_small at xs sx)) ∙ ap (cast_unsigned w64) same ∙ of_z-to_z w64 (word at ys) (word_small at ys sy)
+    sym (of_z-to_z w64 (u64_at at xs) (word_small at xs sx)) ∙ ap (cast_unsigned w64) same ∙ of_z-to_z w64 (u64_at at ys) (word_small at ys sy)
 
 -- ---- records
 
@@ -95,7 +95,7 @@ same_record_byte : (x y : List ℕ) → Small x → Small y → SaysSame x y →
 same_record_byte x y sx sy is k below =
     let id = same_word 0 x y sx sy (ap (λ (b : Body). b.id) is.body) k in
     let mass = same_short 8 x y sx sy (ap (λ (b : Body). b.mass) is.body) k in
-    let flag = same_short 12 x y sx sy (flags (short 12 x) (short 12 y) is.left.flag is.right.flag (ap (λ (b : Body). b.out) is.body)) k in
+    let flag = same_short 12 x y sx sy (flags (u32_at 12 x) (u32_at 12 y) is.left.flag is.right.flag (ap (λ (b : Body). b.out) is.body)) k in
     let px = same_word 16 x y sx sy (ap (λ (b : Body). b.at.x) is.body) k in
     let py = same_word 24 x y sx sy (ap (λ (b : Body). b.at.y) is.body) k in
     let pz = same_word 32 x y sx sy (ap (λ (b : Body). b.at.z) is.body) k in
@@ -155,19 +155,19 @@ record HaveSameRecords (size : ℕ) (x y : List ℕ) : Type 0 where
   left : length x ≡ PAGE_SIZE
   right : length y ≡ PAGE_SIZE
   number : page_number x ≡ page_number y
-  count : page_count x ≡ page_count y
+  count : record_count x ≡ record_count y
   next : page_next x ≡ page_next y
-  zeros : word 24 x ≡ word 24 y
-  record_byte : (i j : ℕ) → i < page_count x → j < size → get_or x (HEADER_SIZE + (size * i + j)) 0 ≡ get_or y (HEADER_SIZE + (size * i + j)) 0
+  zeros : u64_at 24 x ≡ u64_at 24 y
+  record_byte : (i j : ℕ) → i < record_count x → j < size → get_or x (HEADER_SIZE + (size * i + j)) 0 ≡ get_or y (HEADER_SIZE + (size * i + j)) 0
   padded : IsZeroPadded size x
   also_padded : IsZeroPadded size y
 
 same_page : (size : ℕ) (x y : List ℕ) → Small x → Small y → HaveSameRecords size x y → x ≡ y
 same_page size x y sx sy is = same_number_lists x y (is.left ∙ sym is.right) byte where
-  among : (m : ℕ) → m < size * page_count x → get_or x (HEADER_SIZE + m) 0 ≡ get_or y (HEADER_SIZE + m) 0
+  among : (m : ℕ) → m < size * record_count x → get_or x (HEADER_SIZE + m) 0 ≡ get_or y (HEADER_SIZE + m) 0
   among m below =
       let whole = div-add-mod m size in
-      let within : m / size < page_count x = (div-lt_iff_lt-mul is.some).1 (subst (λ e. m < e) (mul_comm size (page_count x)) below) in
+      let within : m / size < record_count x = (div-lt_iff_lt-mul is.some).1 (subst (λ e. m < e) (mul_comm size (record_count x)) below) in
       subst (λ e. get_or x (HEADER_SIZE + e) 0 ≡ get_or y (HEADER_SIZE + e) 0) whole
       (is.record_byte (m / size) (m % size) within (mod-lt m is.some))
 
@@ -262,7 +262,7 @@ pub same_cell_page : (page : ℕ) (a b : List ℕ) → AreBytes a → AreBytes b
 same_cell_page page a b are_a are_b left right form_a form_b padded_a padded_b nexts cells =
     let sa = small a are_a in
     let sb = small b are_b in
-    let counts : page_count a ≡ page_count b = sym (length-cells_of a) ∙ ap length cells ∙ length-cells_of b in
+    let counts : record_count a ≡ record_count b = sym (length-cells_of a) ∙ ap length cells ∙ length-cells_of b in
     same_page CELL_SIZE a b sa sb
     (record {
       some = omega arith;
@@ -273,7 +273,7 @@ same_cell_page page a b are_a are_b left right form_a form_b padded_a padded_b n
       next = nexts;
       zeros = form_a.zeros ∙ sym form_b.zeros;
       record_byte = λ i j within k.
-          let also : i < page_count b = omega arith in
+          let also : i < record_count b = omega arith in
           let cell : cell_of (cell_record i a) ≡ cell_of (cell_record i b) =
           same_Some (cell_of (cell_record i a)) (cell_of (cell_record i b)) (sym (cell_at a i within) ∙ ap (λ l. slice_get l i) cells ∙ cell_at b i also) in
           sym (cell_byte a i j k)

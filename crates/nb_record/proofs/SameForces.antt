@@ -13,7 +13,7 @@ use Rattle.nb_model.specs.Valid.{IsInBox}
 use Rattle.nb_model.specs.Vector.{vector_sum}
 use Rattle.nb_model.specs.Octree.{cell_side, octant_at, in_octant, is_same_cell, total_mass, centre_of_mass}
 use Rattle.nb_model.specs.Gravity.{pull, is_far, is_accepted, direct_sum, octants, cell_force, force_to_depth, force_on}
-use Rattle.nb_model.specs.Leapfrog.{in_box}
+use Rattle.nb_model.specs.Leapfrog.{unescaped}
 use Rattle.nb_key.specs.Morton.{key_at}
 use Rattle.nb_key.proofs.Ranges.{same_cell}
 use Rattle.nb_record.specs.Cells.{in_cell}
@@ -127,10 +127,10 @@ same_force_of_cell params p level key xs ys within box is =
     λ k d below. (All-filter test (λ b. IsInBox b.at) xs box k d below, all_in_cell level key xs k d below) in
     same_force params p (21 - level) level key (in_cell level key xs) (in_cell level key ys) (omega arith) one (IsPermutation-filter test xs ys is)
 
-pub same_force_of_all : (params : Params) (p : At) (xs ys : List Body) → All (λ b. IsInBox b.at) xs → IsPermutation xs ys → force_on params p 0 (in_box xs) ≡ force_on params p 0 (in_box ys)
+pub same_force_of_all : (params : Params) (p : At) (xs ys : List Body) → All (λ b. IsInBox b.at) xs → IsPermutation xs ys → force_on params p 0 (unescaped xs) ≡ force_on params p 0 (unescaped ys)
 same_force_of_all params p xs ys box is =
     let stays = λ (b : Body). not b.out in
-    let inside : All (λ b. IsInBox b.at) (in_box xs) = All-filter stays (λ b. IsInBox b.at) xs box in
-    ap (force_on params p 0) (sym (in_root (in_box xs)))
-    ∙ same_force_of_cell params p 0 1 (in_box xs) (in_box ys) (omega arith) inside (IsPermutation-filter stays xs ys is)
-    ∙ ap (force_on params p 0) (in_root (in_box ys))
+    let inside : All (λ b. IsInBox b.at) (unescaped xs) = All-filter stays (λ b. IsInBox b.at) xs box in
+    ap (force_on params p 0) (sym (in_root (unescaped xs)))
+    ∙ same_force_of_cell params p 0 1 (unescaped xs) (unescaped ys) (omega arith) inside (IsPermutation-filter stays xs ys is)
+    ∙ ap (force_on params p 0) (in_root (unescaped ys))

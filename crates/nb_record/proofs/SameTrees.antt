@@ -9,7 +9,7 @@ use Rattle.nb_model.specs.declared.params.Params.{Params}
 use Rattle.nb_model.specs.Limits.{deepest_level}
 use Rattle.nb_model.specs.Octree.{octant_at, in_octant, total_mass, centre_of_mass}
 use Rattle.nb_model.specs.Gravity.{octants}
-use Rattle.nb_model.specs.Leapfrog.{in_box}
+use Rattle.nb_model.specs.Leapfrog.{unescaped}
 use Rattle.nb_model.proofs.Facts.{sum_by_agree}
 use Rattle.nb_key.specs.Morton.{key_of, morton_key}
 use Rattle.nb_record.specs.declared.tree.Tree.{Tree}
@@ -105,8 +105,8 @@ same_cells params all others is_all (suc depth) path (x ∷ xs) (y ∷ ys) is =
 
 pub same_tree : (params : Params) (xs ys : List Body) → IsPermutation xs ys → tree_cells params xs ≡ tree_cells params ys
 same_tree params xs ys is =
-    let inside : IsPermutation (in_box xs) (in_box ys) = IsPermutation-filter (λ b. not b.out) xs ys is in
-    same_cells params (in_box xs) (in_box ys) inside 21 [] (in_box xs) (in_box ys) inside
+    let inside : IsPermutation (unescaped xs) (unescaped ys) = IsPermutation-filter (λ b. not b.out) xs ys is in
+    same_cells params (unescaped xs) (unescaped ys) inside 21 [] (unescaped xs) (unescaped ys) inside
 
 -- ---- the tree in its files
 
@@ -115,13 +115,13 @@ same_tree_of tree files params xs ys is of =
     let back : IsPermutation ys (sorted_by by_key xs) = IsPermutation-trans ys xs (sorted_by by_key xs) (IsPermutation-sym xs ys is) (permuted by_key xs) in
     let order : sorted_by by_key xs ≡ sorted_by by_key ys = only by_key ys (sorted_by by_key xs) back of.distinct in
     let cells : tree_cells params xs ≡ tree_cells params ys = same_tree params xs ys is in
-    let inside : IsPermutation (in_box xs) (in_box ys) = IsPermutation-filter (λ b. not b.out) xs ys is in
+    let inside : IsPermutation (unescaped xs) (unescaped ys) = IsPermutation-filter (λ b. not b.out) xs ys is in
     record {
       distinct = subst (IsSortedByRank by_key) order of.distinct;
       ordered = subst (HoldsBodies (files tree.bodies)) order of.ordered;
       bits = subst (IsBitsFor tree.bits) (same_length xs ys is) of.bits;
       table = subst (IsCellTable (files tree.cells) tree.bits tree.pages) cells of.table;
-      count = of.count ∙ same_length (in_box xs) (in_box ys) inside;
-      mass = of.mass ∙ same_mass (in_box xs) (in_box ys) inside;
+      count = of.count ∙ same_length (unescaped xs) (unescaped ys) inside;
+      mass = of.mass ∙ same_mass (unescaped xs) (unescaped ys) inside;
       nodes = of.nodes ∙ ap length cells;
     }

@@ -9,7 +9,7 @@ use Rattle.nb_model.specs.declared.params.Params.{Params}
 use Rattle.nb_model.specs.Limits.{deepest_level}
 use Rattle.nb_model.specs.Octree.{in_octant}
 use Rattle.nb_model.specs.Gravity.{octants}
-use Rattle.nb_model.specs.Leapfrog.{in_box}
+use Rattle.nb_model.specs.Leapfrog.{unescaped}
 use Rattle.nb_model.proofs.Facts.{sum_by_agree}
 use Rattle.nb_model.proofs.Facts.{sum_by-octants}
 use Rattle.nb_record.specs.Cells.{cells_to_depth, tree_cells}
@@ -53,10 +53,10 @@ length_cells params all (suc depth) path (b ∷ bs) =
       | inr few ↦ omega (arith, ap length (cells-leaf params all depth path b bs few), more)
     ]
 
-pub most_cells : (params : Params) (bodies : List Body) → length (tree_cells params bodies) ≤ 22 * length (in_box bodies)
-most_cells params bodies = omega (arith, length_cells params (in_box bodies) 21 [] (in_box bodies), all_levels (in_box bodies))
+pub most_cells : (params : Params) (bodies : List Body) → length (tree_cells params bodies) ≤ 22 * length (unescaped bodies)
+most_cells params bodies = omega (arith, length_cells params (unescaped bodies) 21 [] (unescaped bodies), all_levels (unescaped bodies))
 
-pub no_cells : (params : Params) (bodies : List Body) → in_box bodies ≡ [] → tree_cells params bodies ≡ []
+pub no_cells : (params : Params) (bodies : List Body) → unescaped bodies ≡ [] → tree_cells params bodies ≡ []
 no_cells params bodies none = ap (λ l. cells_to_depth params l 21 [] l) none ∙ cells-nil params [] 21 []
 
 first_there : (params : Params) (all bodies : List Body) → bodies ≢ [] → 1 ≤ length (cells_to_depth params all 21 [] bodies)
@@ -65,8 +65,8 @@ first_there params all (b ∷ bs) some =
     let first = first_cell params all 21 [] b bs in
     omega (arith, ap length first.2)
 
-pub some_cells : (params : Params) (bodies : List Body) → in_box bodies ≢ [] → 1 ≤ length (tree_cells params bodies)
-some_cells params bodies some = first_there params (in_box bodies) (in_box bodies) some
+pub some_cells : (params : Params) (bodies : List Body) → unescaped bodies ≢ [] → 1 ≤ length (tree_cells params bodies)
+some_cells params bodies some = first_there params (unescaped bodies) (unescaped bodies) some
 
 -- ---- sums over the octants of a cell
 

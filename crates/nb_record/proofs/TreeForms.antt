@@ -10,7 +10,7 @@ use Rattle.nb_model.specs.declared.body.Body.{Body}
 use Rattle.nb_model.specs.declared.params.Params.{Params}
 use Rattle.nb_model.specs.Octree.{total_mass, centre_of_mass}
 use Rattle.nb_model.specs.Valid.{IsInBox, IsValidBody}
-use Rattle.nb_model.specs.Leapfrog.{in_box}
+use Rattle.nb_model.specs.Leapfrog.{unescaped}
 use Rattle.nb_model.proofs.Facts.{length-filter-le}
 use Rattle.nb_key.specs.Morton.{key_at, IsKeyAt}
 use Rattle.nb_key.proofs.Levels.{eight_mono}
@@ -95,7 +95,7 @@ form_of_cell params all level cell valid most stay is =
 
 pub tree_form : (params : Params) (bodies : List Body) → All IsValidBody bodies → length bodies ≤ 2 ^ 24 → All IsCell (tree_cells params bodies)
 tree_form params bodies valid most =
-    let all = in_box bodies in
+    let all = unescaped bodies in
     let stays = λ (b : Body). not b.out in
     All-weaker (OfTree params all) IsCell
     (λ cell of. form_of_cell params all of.0 cell (All-filter stays IsValidBody bodies valid) (omega (arith, length-filter-le stays bodies, most)) (inside_box bodies) of.1)

@@ -3,7 +3,7 @@ use Rattle.std.proofs.Common.{◌≡◌, ℕ, ◌+◌, ◌-◌, ◌^◌, ◌<◌
 use Rattle.std.proofs.lemmas.List.{append_assoc, length-append, length-take-le, length-drop, take-take, take_at, take-append-le, drop-drop, drop_at, drop-append-le, drop-take}
 use Rattle.byteorder.specs.Endian.{little_number}
 use Rattle.byteorder.specs.Numbers.{little_from-take, little_number-reads_back, length-bytes_low_first}
-use Rattle.nb_record.specs.Fields.{word, short, word_bytes, short_bytes, written}
+use Rattle.nb_record.specs.Fields.{u64_at, u32_at, u64_bytes, u32_bytes, written}
 
 -- a write within the bytes
 abbrev pub Within : ℕ → List ℕ → List ℕ → Type 0
@@ -64,20 +64,20 @@ written_twice at p q bytes then is within within_then =
 
 -- ---- words
 
-pub length-word_bytes : (n : ℕ) → length (word_bytes n) ≡ 8
-unfolding word_bytes
-length-word_bytes n = length-bytes_low_first 0 8 n
+pub length-u64_bytes : (n : ℕ) → length (u64_bytes n) ≡ 8
+unfolding u64_bytes
+length-u64_bytes n = length-bytes_low_first 0 8 n
 
-pub length-short_bytes : (n : ℕ) → length (short_bytes n) ≡ 4
-unfolding short_bytes
-length-short_bytes n = length-bytes_low_first 0 4 n
+pub length-u32_bytes : (n : ℕ) → length (u32_bytes n) ≡ 4
+unfolding u32_bytes
+length-u32_bytes n = length-bytes_low_first 0 4 n
 
-word_part : (k : ℕ) (bytes : List ℕ) → little_number 8 (take 8 (drop k bytes)) ≡ word k bytes
-unfolding word
+word_part : (k : ℕ) (bytes : List ℕ) → little_number 8 (take 8 (drop k bytes)) ≡ u64_at k bytes
+unfolding u64_at
 word_part k bytes = little_from-take 0 8 8 (drop k bytes) (omega arith)
 
-short_part : (k : ℕ) (bytes : List ℕ) → little_number 4 (take 4 (drop k bytes)) ≡ short k bytes
-unfolding short
+short_part : (k : ℕ) (bytes : List ℕ) → little_number 4 (take 4 (drop k bytes)) ≡ u32_at k bytes
+unfolding u32_at
 short_part k bytes = little_from-take 0 4 4 (drop k bytes) (omega arith)
 
 -- a part of a piece, before what stands behind the piece
@@ -85,42 +85,42 @@ part_front : (k n : ℕ) (p rest : List ℕ) → k + n ≤ length p → take n (
 part_front k n p rest within =
     ap (take n) (drop-append-le k p rest (omega arith)) ∙ take-append-le n (drop k p) rest (omega (arith, length-drop k p))
 
-pub word_front : (k : ℕ) (p rest : List ℕ) → k + 8 ≤ length p → word k (p ++ rest) ≡ word k p
+pub word_front : (k : ℕ) (p rest : List ℕ) → k + 8 ≤ length p → u64_at k (p ++ rest) ≡ u64_at k p
 word_front k p rest within =
     sym (word_part k (p ++ rest)) ∙ ap (little_number 8) (part_front k 8 p rest within) ∙ word_part k p
 
-pub short_front : (k : ℕ) (p rest : List ℕ) → k + 4 ≤ length p → short k (p ++ rest) ≡ short k p
+pub short_front : (k : ℕ) (p rest : List ℕ) → k + 4 ≤ length p → u32_at k (p ++ rest) ≡ u32_at k p
 short_front k p rest within =
     sym (short_part k (p ++ rest)) ∙ ap (little_number 4) (part_front k 4 p rest within) ∙ short_part k p
 
-pub word_before : (at : ℕ) (piece bytes : List ℕ) (k : ℕ) → at ≤ length bytes → k + 8 ≤ at → word k (written at piece bytes) ≡ word k bytes
+pub word_before : (at : ℕ) (piece bytes : List ℕ) (k : ℕ) → at ≤ length bytes → k + 8 ≤ at → u64_at k (written at piece bytes) ≡ u64_at k bytes
 word_before at piece bytes k within before =
     sym (word_part k (written at piece bytes)) ∙ ap (little_number 8) (part_before at piece bytes k 8 within before) ∙ word_part k bytes
 
-pub word_after : (at : ℕ) (piece bytes : List ℕ) (k : ℕ) → at ≤ length bytes → at + length piece ≤ k → word k (written at piece bytes) ≡ word k bytes
-unfolding word
+pub word_after : (at : ℕ) (piece bytes : List ℕ) (k : ℕ) → at ≤ length bytes → at + length piece ≤ k → u64_at k (written at piece bytes) ≡ u64_at k bytes
+unfolding u64_at
 word_after at piece bytes k within after = ap (little_number 8) (part_after at piece bytes k within after)
 
-pub word_first : (n : ℕ) (rest : List ℕ) → n < 2 ^ 64 → word 0 (word_bytes n ++ rest) ≡ n
-unfolding word word_bytes
+pub word_first : (n : ℕ) (rest : List ℕ) → n < 2 ^ 64 → u64_at 0 (u64_bytes n ++ rest) ≡ n
+unfolding u64_at u64_bytes
 word_first n rest fits = little_number-reads_back 8 n rest (omega arith)
 
-pub short_first : (n : ℕ) (rest : List ℕ) → n < 2 ^ 32 → short 0 (short_bytes n ++ rest) ≡ n
-unfolding short short_bytes
+pub short_first : (n : ℕ) (rest : List ℕ) → n < 2 ^ 32 → u32_at 0 (u32_bytes n ++ rest) ≡ n
+unfolding u32_at u32_bytes
 short_first n rest fits = little_number-reads_back 4 n rest (omega arith)
 
-pub word_here : (at n : ℕ) (bytes : List ℕ) → at ≤ length bytes → n < 2 ^ 64 → word at (written at (word_bytes n) bytes) ≡ n
-unfolding word
+pub word_here : (at n : ℕ) (bytes : List ℕ) → at ≤ length bytes → n < 2 ^ 64 → u64_at at (written at (u64_bytes n) bytes) ≡ n
+unfolding u64_at
 word_here at n bytes within fits =
-    ap (little_number 8) (drop_here at (word_bytes n) bytes within) ∙ word_first n (drop (at + length (word_bytes n)) bytes) fits
+    ap (little_number 8) (drop_here at (u64_bytes n) bytes within) ∙ word_first n (drop (at + length (u64_bytes n)) bytes) fits
 
 -- a word behind a piece
-pub word_past : (p rest : List ℕ) (n k : ℕ) → length p ≡ n → word (n + k) (p ++ rest) ≡ word k rest
-unfolding word
+pub word_past : (p rest : List ℕ) (n k : ℕ) → length p ≡ n → u64_at (n + k) (p ++ rest) ≡ u64_at k rest
+unfolding u64_at
 word_past p rest n k long =
     ap (little_number 8) (sym (drop-drop k n (p ++ rest)) ∙ ap (drop k) (drop_at p rest n long))
 
-pub short_past : (p rest : List ℕ) (n k : ℕ) → length p ≡ n → short (n + k) (p ++ rest) ≡ short k rest
-unfolding short
+pub short_past : (p rest : List ℕ) (n k : ℕ) → length p ≡ n → u32_at (n + k) (p ++ rest) ≡ u32_at k rest
+unfolding u32_at
 short_past p rest n k long =
     ap (little_number 4) (sym (drop-drop k n (p ++ rest)) ∙ ap (drop k) (drop_at p rest n long))

@@ -6,11 +6,11 @@ use Rattle.nb_model.specs.declared.params.Params.{Params}
 use Rattle.nb_model.specs.Limits.{deepest_level}
 use Rattle.nb_model.specs.Octree.{in_octant, total_mass, centre_of_mass}
 use Rattle.nb_model.specs.Gravity.{octants}
-use Rattle.nb_model.specs.Leapfrog.{in_box}
+use Rattle.nb_model.specs.Leapfrog.{unescaped}
 use Rattle.nb_key.specs.Morton.{key_of, key_at, morton_key, IsKeyAt}
 use Rattle.nb_record.specs.declared.cell.Cell.{Cell}
 
--- The number of a cell's first body in the file of bodies: how many of all bodies in the box have a Morton key below those
+-- The number of a cell's first body in the file of bodies: how many of all unescaped bodies have a Morton key below those
 -- of all the cell's bodies.
 abbrev pub first_body : List Body → List Body → ℕ
 first_body all bodies = count_by (λ b. list_all (λ c. nat_lt (morton_key b.at) (morton_key c.at)) bodies) all
@@ -43,9 +43,9 @@ cells_to_depth params all (suc depth) path (b ∷ bs) =
     else cell_for all path bodies (kids_of level bodies)
     ∷ flat_map (λ octant. cells_to_depth params all depth (path ++ octant ∷ []) (in_octant level bodies octant)) octants
 
--- the cells of the tree of a list of bodies: those of its bodies in the box, from the root cell down
+-- the cells of the tree of a list of bodies: those of its unescaped bodies, from the root cell down
 abbrev pub tree_cells : Params → List Body → List Cell
-tree_cells params bodies = cells_to_depth params (in_box bodies) deepest_level [] (in_box bodies)
+tree_cells params bodies = cells_to_depth params (unescaped bodies) deepest_level [] (unescaped bodies)
 
 -- the bodies that lie in the cell at this level with this key, in their order
 abbrev pub in_cell : ℕ → ℕ → List Body → List Body

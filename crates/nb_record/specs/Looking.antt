@@ -4,18 +4,18 @@ use Rattle.nb_record.specs.declared.answer.Look.{Look}
 use Rattle.nb_record.specs.declared.answer.Look.TheVariants.{Found, Next, Wants, Gone, Bad}
 use Rattle.nb_record.specs.declared.cell.Cell.{Cell}
 use Rattle.nb_record.specs.declared.header.PageError.{PageError}
-use Rattle.nb_record.specs.Fields.{word}
-use Rattle.nb_record.specs.Pages.{page_count, page_next, read_cell_page}
+use Rattle.nb_record.specs.Fields.{u64_at}
+use Rattle.nb_record.specs.Pages.{record_count, page_next, read_cell_page}
 use Rattle.nb_record.specs.Records.{cell_record, cell_of, IsCell}
 
 -- the index of the first of the n records from record i on that has this key
 unfoldable pub find_key : ℕ → ℕ → ℕ → List ℕ → Option ℕ
 find_key zero i key bytes = None
-find_key (suc n) i key bytes = if word 0 (cell_record i bytes) == key then Some i else find_key n (suc i) key bytes
+find_key (suc n) i key bytes = if u64_at 0 (cell_record i bytes) == key then Some i else find_key n (suc i) key bytes
 
 -- the index of the first record of a page that has this key
 abbrev pub index_of_key : ℕ → List ℕ → Option ℕ
-index_of_key key bytes = find_key (page_count bytes) 0 key bytes
+index_of_key key bytes = find_key (record_count bytes) 0 key bytes
 
 -- The page has the form. Where it has the key, its record is found, or is bad where it isn't of the form. Where it
 -- lacks the key, the next page is to be looked at, or the key is gone where there is none.

@@ -5,7 +5,7 @@ use Rattle.nb_model.specs.declared.body.Body.{Body}
 use Rattle.nb_key.specs.Morton.{morton_key}
 use Rattle.nb_host.specs.Page.{page_start, page_of}
 use Rattle.nb_record.specs.declared.sizes.TheConstants.{BODIES_PER_PAGE}
-use Rattle.nb_record.specs.Pages.{page_count, IsBodyPage}
+use Rattle.nb_record.specs.Pages.{record_count, IsBodyPage}
 use Rattle.nb_record.specs.Records.{body_record, body_of, kick_of, IsBodyRecord}
 
 -- ---- the order
@@ -62,7 +62,7 @@ record_of file j = body_record (j % BODIES_PER_PAGE) (page_of file (j / BODIES_P
 pub record HoldsBodies (file : List ℕ) (bodies : List Body) : Type 0 where
   pub whole : length file ≡ page_start (pages_for (length bodies))
   pub pages : (p : ℕ) → p < pages_for (length bodies) → IsBodyPage p (page_of file p)
-  pub counts : (p : ℕ) → p < pages_for (length bodies) → page_count (page_of file p) ≡ count_on (length bodies) p
+  pub counts : (p : ℕ) → p < pages_for (length bodies) → record_count (page_of file p) ≡ count_on (length bodies) p
   pub records : (j : ℕ) → j < length bodies → IsBodyRecord (record_of file j)
   pub held : (j : ℕ) → j < length bodies → slice_get bodies j ≡ Some (body_of (record_of file j))
 

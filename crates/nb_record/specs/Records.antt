@@ -17,8 +17,8 @@ use Rattle.nb_model.specs.Valid.{IsInBox, IsBelow, IsValidBody}
 use Rattle.nb_key.specs.Morton.{IsKey}
 use Rattle.nb_record.specs.declared.cell.Cell.{Cell}
 use Rattle.nb_record.specs.declared.sizes.TheConstants.{HEADER_SIZE, BODY_SIZE, CELL_SIZE, KICK_AT}
-use Rattle.nb_record.specs.Fields.{word, short, signed_word, word_bytes}
-use Rattle.nb_record.specs.Pages.{page_count}
+use Rattle.nb_record.specs.Fields.{u64_at, u32_at, i64_at, u64_bytes}
+use Rattle.nb_record.specs.Pages.{record_count}
 
 -- ---- bodies
 
@@ -29,20 +29,20 @@ body_record i bytes = take BODY_SIZE (drop (HEADER_SIZE + BODY_SIZE * i) bytes)
 -- what the bytes of a record say
 abbrev pub body_of : List ℕ → Body
 body_of bytes = record {
-  id = word 0 bytes;
-  mass = short 8 bytes;
-  out = short 12 bytes == 1;
-  at = record { x = word 16 bytes; y = word 24 bytes; z = word 32 bytes };
-  v = record { x = signed_word 40 bytes; y = signed_word 48 bytes; z = signed_word 56 bytes };
+  id = u64_at 0 bytes;
+  mass = u32_at 8 bytes;
+  out = u32_at 12 bytes == 1;
+  at = record { x = u64_at 16 bytes; y = u64_at 24 bytes; z = u64_at 32 bytes };
+  v = record { x = i64_at 40 bytes; y = i64_at 48 bytes; z = i64_at 56 bytes };
 }
 
 -- the kick behind the body
 abbrev pub kick_of : List ℕ → V3
-kick_of bytes = record { x = signed_word KICK_AT bytes; y = signed_word (KICK_AT + 8) bytes; z = signed_word (KICK_AT + 16) bytes }
+kick_of bytes = record { x = i64_at KICK_AT bytes; y = i64_at (KICK_AT + 8) bytes; z = i64_at (KICK_AT + 16) bytes }
 
 -- the bytes are a body's record
 pub record IsBodyRecord (bytes : List ℕ) : Type 0 where
-  pub flag : short 12 bytes ≤ 1
+  pub flag : u32_at 12 bytes ≤ 1
   pub body : IsValidBody (body_of bytes)
   pub kick : IsBelow kick_limit (kick_of bytes)
 
@@ -56,7 +56,7 @@ first_bodies zero bytes = []
 first_bodies (suc n) bytes = first_bodies n bytes ++ body_of (body_record n bytes) ∷ []
 
 abbrev pub bodies_of : List ℕ → List Body
-bodies_of bytes = first_bodies (page_count bytes) bytes
+bodies_of bytes = first_bodies (record_count bytes) bytes
 
 -- a body whose numbers fit their fields in a record, as those of the code do
 pub record FitsBodyRecord (b : Body) : Type 0 where
@@ -78,12 +78,12 @@ cell_record i bytes = take CELL_SIZE (drop (HEADER_SIZE + CELL_SIZE * i) bytes)
 -- what the bytes of a record say
 abbrev pub cell_of : List ℕ → Cell
 cell_of bytes = record {
-  key = word 0 bytes;
-  mass = word 8 bytes;
-  centre = record { x = word 16 bytes; y = word 24 bytes; z = word 32 bytes };
-  first = word 40 bytes;
-  count = word 48 bytes;
-  kids = word 56 bytes;
+  key = u64_at 0 bytes;
+  mass = u64_at 8 bytes;
+  centre = record { x = u64_at 16 bytes; y = u64_at 24 bytes; z = u64_at 32 bytes };
+  first = u64_at 40 bytes;
+  count = u64_at 48 bytes;
+  kids = u64_at 56 bytes;
 }
 
 -- A cell of the form. The keys at the deepest level are those from 8 ^ 21 on: such a cell has no kids.
@@ -100,7 +100,7 @@ pub record IsCell (cell : Cell) : Type 0 where
 
 -- the record of a cell
 abbrev pub cell_bytes : Cell → List ℕ
-cell_bytes c = flat_map word_bytes (c.key ∷ c.mass ∷ c.centre.x ∷ c.centre.y ∷ c.centre.z ∷ c.first ∷ c.count ∷ c.kids ∷ [])
+cell_bytes c = flat_map u64_bytes (c.key ∷ c.mass ∷ c.centre.x ∷ c.centre.y ∷ c.centre.z ∷ c.first ∷ c.count ∷ c.kids ∷ [])
 
 -- a cell whose numbers fit their fields in a record, as those of the code do
 pub record FitsCellRecord (cell : Cell) : Type 0 where
@@ -119,4 +119,4 @@ first_cells zero bytes = []
 first_cells (suc n) bytes = first_cells n bytes ++ cell_of (cell_record n bytes) ∷ []
 
 abbrev pub cells_of : List ℕ → List Cell
-cells_of bytes = first_cells (page_count bytes) bytes
+cells_of bytes = first_cells (record_count bytes) bytes

@@ -3,7 +3,7 @@ use Rattle.std.specs.Prelude.{◌≡◌, ℕ, ◌*◌, ◌^◌, ◌≤◌, List,
 use Rattle.nb_model.specs.declared.body.Body.{Body}
 use Rattle.nb_model.specs.declared.params.Params.{Params}
 use Rattle.nb_model.specs.Octree.{total_mass}
-use Rattle.nb_model.specs.Leapfrog.{in_box}
+use Rattle.nb_model.specs.Leapfrog.{unescaped}
 use Rattle.nb_record.specs.declared.tree.Tree.{Tree}
 use Rattle.nb_record.specs.Order.{by_key, sorted_by, IsSortedByRank, HoldsBodies}
 use Rattle.nb_record.specs.Cells.{tree_cells}
@@ -26,6 +26,6 @@ pub record IsTreeOf (tree : Tree) (files : ℕ → List ℕ) (params : Params) (
   pub ordered : HoldsBodies (files tree.bodies) (sorted_by by_key bodies)
   pub bits : IsBitsFor tree.bits (length bodies)
   pub table : IsCellTable (files tree.cells) tree.bits tree.pages (tree_cells params bodies)
-  pub count : tree.count ≡ length (in_box bodies)
-  pub mass : tree.mass ≡ total_mass (in_box bodies)
+  pub count : tree.count ≡ length (unescaped bodies)
+  pub mass : tree.mass ≡ total_mass (unescaped bodies)
   pub nodes : tree.nodes ≡ length (tree_cells params bodies)

@@ -4,7 +4,7 @@ ghost use Rattle.std.specs.Prelude.{◌≡◌, ◌<◌, ◌≤◌, length, Match
 ghost use Rattle.nb_model.specs.declared.body.Body.{Body};
 ghost use Rattle.nb_model.specs.Limits.{kick_limit};
 ghost use Rattle.nb_model.specs.Valid.{IsBelow};
-ghost use Rattle.nb_record.specs.Pages.{page_count, read_body_page, IsBodyPage};
+ghost use Rattle.nb_record.specs.Pages.{record_count, read_body_page, IsBodyPage};
 ghost use Rattle.nb_record.specs.Records.{body_record, body_of, kick_of, IsBodyRecord};
 
 use crate::fields::{WORD, short_at, signed_word_at, word_at};
@@ -46,13 +46,13 @@ impl<'a> Model for BodyPage<'a> {
     ghost use Rattle.std.specs.Prelude.{◌≡◌, ◌≤◌, ℕ, List, length};
     ghost use Rattle.nb_host.specs.declared.page_name.TheConstants.{PAGE_SIZE};
     ghost use Rattle.nb_record.specs.declared.sizes.TheConstants.{BODIES_PER_PAGE};
-    ghost use Rattle.nb_record.specs.Fields.{word};
+    ghost use Rattle.nb_record.specs.Fields.{u64_at};
 
     ghost Value = { List ℕ };
 
     ghost view = { λ p. p.bytes.now };
 
-    ghost invariant = { λ p. (length p.bytes.now ≡ PAGE_SIZE) × (word 8 p.bytes.now ≤ BODIES_PER_PAGE) };
+    ghost invariant = { λ p. (length p.bytes.now ≡ PAGE_SIZE) × (u64_at 8 p.bytes.now ≤ BODIES_PER_PAGE) };
 }
 
 impl<'a> BodyPage<'a> {
@@ -80,7 +80,7 @@ impl<'a> BodyPage<'a> {
 
     /// How many bodies stand on the page.
     pub fn count(&self) -> u64
-        ensures value { result ≡ page_count self.now }
+        ensures value { result ≡ record_count self.now }
         ensures range { result ≤ BODIES_PER_PAGE }
     {
         word_at(self.bytes, COUNT_AT)
@@ -88,7 +88,7 @@ impl<'a> BodyPage<'a> {
 
     /// The body of record i, where the record is of the form, its body valid and its kick in range.
     pub fn body(&self, i: u64) -> Option<Body>
-        requires { i < page_count self.now }
+        requires { i < record_count self.now }
         ensures { MatchOption result (¬ IsBodyRecord (body_record i self.now))
             (λ body. IsBodyRecord (body_record i self.now) × (body ≡ body_of (body_record i self.now))) }
     {
@@ -97,7 +97,7 @@ impl<'a> BodyPage<'a> {
 
     /// The kick of record i, in box units a tick, of a record that has a body.
     pub fn kick(&self, i: u64) -> V3
-        requires within { i < page_count self.now }
+        requires within { i < record_count self.now }
         requires form { IsBodyRecord (body_record i self.now) }
         ensures value { result ≡ kick_of (body_record i self.now) }
         ensures range { IsBelow kick_limit result }
@@ -107,7 +107,7 @@ impl<'a> BodyPage<'a> {
 
     /// The bytes of record i.
     fn record(&self, i: u64) -> &'a [u8]
-        requires { i < page_count self.now }
+        requires { i < record_count self.now }
         ensures bytes { result.now ≡ body_record i self.now }
         ensures length { length result.now ≡ BODY_SIZE }
     {

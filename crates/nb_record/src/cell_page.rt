@@ -1,8 +1,8 @@
 //! A page of cells in borrowed bytes.
 
 ghost use Rattle.std.specs.Prelude.{◌≡◌, ◌<◌, ◌≤◌, length, MatchOption, IfOk, IfSome};
-ghost use Rattle.nb_record.specs.Fields.{word};
-ghost use Rattle.nb_record.specs.Pages.{page_count, page_next, read_cell_page, IsCellPage};
+ghost use Rattle.nb_record.specs.Fields.{u64_at};
+ghost use Rattle.nb_record.specs.Pages.{record_count, page_next, read_cell_page, IsCellPage};
 ghost use Rattle.nb_record.specs.Records.{cell_record, cell_of, IsCell};
 ghost use Rattle.nb_record.specs.Looking.{index_of_key};
 
@@ -24,13 +24,13 @@ impl<'a> Model for CellPage<'a> {
     ghost use Rattle.std.specs.Prelude.{◌≡◌, ◌≤◌, ℕ, List, length};
     ghost use Rattle.nb_host.specs.declared.page_name.TheConstants.{PAGE_SIZE};
     ghost use Rattle.nb_record.specs.declared.sizes.TheConstants.{CELLS_PER_PAGE};
-    ghost use Rattle.nb_record.specs.Fields.{word};
+    ghost use Rattle.nb_record.specs.Fields.{u64_at};
 
     ghost Value = { List ℕ };
 
     ghost view = { λ p. p.bytes.now };
 
-    ghost invariant = { λ p. (length p.bytes.now ≡ PAGE_SIZE) × (word 8 p.bytes.now ≤ CELLS_PER_PAGE) };
+    ghost invariant = { λ p. (length p.bytes.now ≡ PAGE_SIZE) × (u64_at 8 p.bytes.now ≤ CELLS_PER_PAGE) };
 }
 
 impl<'a> CellPage<'a> {
@@ -59,7 +59,7 @@ impl<'a> CellPage<'a> {
 
     /// How many cells stand on the page.
     pub fn count(&self) -> u64
-        ensures value { result ≡ page_count self.now }
+        ensures value { result ≡ record_count self.now }
         ensures range { result ≤ CELLS_PER_PAGE }
     {
         word_at(self.bytes, COUNT_AT)
@@ -74,15 +74,15 @@ impl<'a> CellPage<'a> {
 
     /// The first field of record i as it stands: a key's number, where the record is a cell's.
     pub fn key_at(&self, i: u64) -> u64
-        requires { i < page_count self.now }
-        ensures { result ≡ word 0 (cell_record i self.now) }
+        requires { i < record_count self.now }
+        ensures { result ≡ u64_at 0 (cell_record i self.now) }
     {
         word_at(self.record(i), KEY_AT)
     }
 
     /// The cell of record i, where the record is of the form.
     pub fn cell(&self, i: u64) -> Option<CellView<'a>>
-        requires { i < page_count self.now }
+        requires { i < record_count self.now }
         ensures { MatchOption result (¬ IsCell (cell_of (cell_record i self.now)))
             (λ cell. IsCell (cell_of (cell_record i self.now)) × (cell ≡ cell_of (cell_record i self.now))) }
     {
@@ -92,8 +92,8 @@ impl<'a> CellPage<'a> {
     /// The index of the first record with this key.
     pub(crate) fn index_of(&self, key: Key) -> Option<u64>
         ensures index { result ≡ index_of_key key self.now }
-        ensures range { IfSome result (λ i. i < page_count self.now) }
-        ensures found { IfSome result (λ i. word 0 (cell_record i self.now) ≡ key) }
+        ensures range { IfSome result (λ i. i < record_count self.now) }
+        ensures found { IfSome result (λ i. u64_at 0 (cell_record i self.now) ≡ key) }
     {
         let number = key.number();
         let count = self.count();
@@ -107,7 +107,7 @@ impl<'a> CellPage<'a> {
 
     /// The bytes of record i.
     fn record(&self, i: u64) -> &'a [u8]
-        requires { i < page_count self.now }
+        requires { i < record_count self.now }
         ensures bytes { result.now ≡ cell_record i self.now }
         ensures length { length result.now ≡ CELL_SIZE }
     {

@@ -12,7 +12,7 @@ ghost use Rattle.nb_model.specs.Limits.{deepest_level};
 ghost use Rattle.nb_model.specs.Valid.{IsInBox};
 ghost use Rattle.nb_model.specs.Vector.{zero_vector, plus, vector_sum};
 ghost use Rattle.nb_model.specs.Gravity.{direct_sum, force_on, is_far, octants, pull};
-ghost use Rattle.nb_model.specs.Leapfrog.{in_box, half_kick, kick, drift, step};
+ghost use Rattle.nb_model.specs.Leapfrog.{unescaped, half_kick, kick, drift, step};
 ghost use Rattle.nb_key.specs.Morton.{key_at};
 ghost use Rattle.nb_record.specs.declared.cell.Cell.{Cell};
 ghost use Rattle.nb_record.specs.Order.{by_key, sorted_by, HaveDifferentIds};
@@ -38,7 +38,7 @@ pub fn law_same_force()
         → force_on params p level (in_cell level key a) ≡ force_on params p level (in_cell level key b) }
     ensures whole { (params : Params) (p : At) (a b : List Body)
         → All (λ body. IsInBox body.at) a → IsPermutation a b
-        → force_on params p 0 (in_box a) ≡ force_on params p 0 (in_box b) }
+        → force_on params p 0 (unescaped a) ≡ force_on params p 0 (unescaped b) }
 {}
 
 /// What a cell of the tree gives, by the opening criterion and what its record says: one pull where it is
@@ -46,20 +46,20 @@ pub fn law_same_force()
 /// octants give.
 pub fn law_cell_force()
     ensures taken { (params : Params) (bodies : List Body) (p : At) (level : ℕ) (cell : Cell)
-        → All (λ b. IsInBox b.at) bodies → IsInBox p → IsTreeCell params (in_box bodies) level cell
+        → All (λ b. IsInBox b.at) bodies → IsInBox p → IsTreeCell params (unescaped bodies) level cell
         → key_at level p ≢ cell.key → is_far params p level cell.centre ≡ true
-        → force_on params p level (in_cell level cell.key (in_box bodies))
+        → force_on params p level (in_cell level cell.key (unescaped bodies))
         ≡ pull params p cell.mass cell.centre }
     ensures leaf { (params : Params) (bodies : List Body) (p : At) (level : ℕ) (cell : Cell)
-        → All (λ b. IsInBox b.at) bodies → IsInBox p → IsTreeCell params (in_box bodies) level cell
+        → All (λ b. IsInBox b.at) bodies → IsInBox p → IsTreeCell params (unescaped bodies) level cell
         → (key_at level p ≡ cell.key) ⊎ (is_far params p level cell.centre ≡ false) → cell.kids ≡ 0
-        → force_on params p level (in_cell level cell.key (in_box bodies))
-        ≡ direct_sum params p (in_cell level cell.key (in_box bodies)) }
+        → force_on params p level (in_cell level cell.key (unescaped bodies))
+        ≡ direct_sum params p (in_cell level cell.key (unescaped bodies)) }
     ensures divided { (params : Params) (bodies : List Body) (p : At) (level : ℕ) (cell : Cell)
-        → All (λ b. IsInBox b.at) bodies → IsInBox p → IsTreeCell params (in_box bodies) level cell
+        → All (λ b. IsInBox b.at) bodies → IsInBox p → IsTreeCell params (unescaped bodies) level cell
         → (key_at level p ≡ cell.key) ⊎ (is_far params p level cell.centre ≡ false) → cell.kids ≢ 0
-        → let below = λ (octant : ℕ). in_cell (level + 1) (8 * cell.key + octant) (in_box bodies) in
-        force_on params p level (in_cell level cell.key (in_box bodies))
+        → let below = λ (octant : ℕ). in_cell (level + 1) (8 * cell.key + octant) (unescaped bodies) in
+        force_on params p level (in_cell level cell.key (unescaped bodies))
         ≡ vector_sum (map (λ octant. force_on params p (level + 1) (below octant)) octants) }
 {}
 

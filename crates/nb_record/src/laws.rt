@@ -10,10 +10,10 @@ ghost use Rattle.nb_model.specs.Bytes.{body_bytes};
 ghost use Rattle.nb_model.specs.Limits.{kick_limit};
 ghost use Rattle.nb_model.specs.Valid.{IsBelow, IsValidBody};
 ghost use Rattle.nb_model.specs.Octree.{in_octant};
-ghost use Rattle.nb_model.specs.Leapfrog.{in_box};
+ghost use Rattle.nb_model.specs.Leapfrog.{unescaped};
 ghost use Rattle.nb_record.specs.declared.cell.Cell.{Cell};
-ghost use Rattle.nb_record.specs.Fields.{word};
-ghost use Rattle.nb_record.specs.Pages.{page_count, page_next};
+ghost use Rattle.nb_record.specs.Fields.{u64_at};
+ghost use Rattle.nb_record.specs.Pages.{record_count, page_next};
 ghost use Rattle.nb_record.specs.Pages.{read_cell_page, read_body_page, IsCellPage, IsBodyPage};
 ghost use Rattle.nb_record.specs.Records.{body_record, record_bytes, body_of, kick_of, bodies_of};
 ghost use Rattle.nb_record.specs.Records.{IsBodyRecord, FitsBodyRecord};
@@ -76,21 +76,21 @@ pub fn law_sorted_by()
 /// A page of cells says as many cells as it counts, each at its index. The index of a key is that of the
 /// first cell with it, and there is none exactly where no cell has it.
 pub fn law_page_cells()
-    ensures count { (bytes : List ℕ) → length (cells_of bytes) ≡ page_count bytes }
-    ensures cell { (bytes : List ℕ) (i : ℕ) → i < page_count bytes
+    ensures count { (bytes : List ℕ) → length (cells_of bytes) ≡ record_count bytes }
+    ensures cell { (bytes : List ℕ) (i : ℕ) → i < record_count bytes
         → slice_get (cells_of bytes) i ≡ Some (cell_of (cell_record i bytes)) }
     ensures found { (bytes : List ℕ) (key i : ℕ) → index_of_key key bytes ≡ Some i
-        → (i < page_count bytes) × (word 0 (cell_record i bytes) ≡ key) }
+        → (i < record_count bytes) × (u64_at 0 (cell_record i bytes) ≡ key) }
     ensures first { (bytes : List ℕ) (key i : ℕ) → index_of_key key bytes ≡ Some i
-        → (j : ℕ) → j < i → word 0 (cell_record j bytes) ≢ key }
+        → (j : ℕ) → j < i → u64_at 0 (cell_record j bytes) ≢ key }
     ensures lacks { (bytes : List ℕ) (key : ℕ)
         → ((index_of_key key bytes ≡ None) ↔ All (λ cell. cell.key ≢ key) (cells_of bytes)) }
 {}
 
 /// A page of bodies says as many bodies as it counts, each at its index.
 pub fn law_page_bodies()
-    ensures count { (bytes : List ℕ) → length (bodies_of bytes) ≡ page_count bytes }
-    ensures body { (bytes : List ℕ) (i : ℕ) → i < page_count bytes
+    ensures count { (bytes : List ℕ) → length (bodies_of bytes) ≡ record_count bytes }
+    ensures body { (bytes : List ℕ) (i : ℕ) → i < record_count bytes
         → slice_get (bodies_of bytes) i ≡ Some (body_of (body_record i bytes)) }
 {}
 
@@ -114,7 +114,7 @@ pub fn law_morton_order()
     ensures sorted { (rank : Body → ℕ) (bodies : List Body) → IsSortedByRank rank bodies
         → bodies ≡ sorted_by rank bodies }
     ensures front { (bodies : List Body) → IsSortedByRank by_key bodies
-        → take (length (in_box bodies)) bodies ≡ in_box bodies }
+        → take (length (unescaped bodies)) bodies ≡ unescaped bodies }
 {}
 
 /// Body j of a file stands on one of the file's pages, at one of the page's records. A file holds one list.

@@ -9,28 +9,28 @@ ghost use Rattle.nb_model.specs.declared.body.Body.{Body};
 ghost use Rattle.nb_model.specs.Limits.{deepest_level};
 ghost use Rattle.nb_model.specs.Octree.{in_octant, total_mass};
 ghost use Rattle.nb_model.specs.Gravity.{octants};
-ghost use Rattle.nb_model.specs.Leapfrog.{in_box};
+ghost use Rattle.nb_model.specs.Leapfrog.{unescaped};
 ghost use Rattle.nb_key.specs.Morton.{key_at, IsKeyAt};
 ghost use Rattle.nb_record.specs.Order.{by_key, sorted_by, HaveDifferentIds};
 ghost use Rattle.nb_record.specs.Cells.{first_body, in_cell};
 
-/// In Morton order the bodies in the box come first, in the order that they have without the others, and
+/// In Morton order the unescaped bodies come first, in the order that they have without the others, and
 /// behind them those that have left it. Ranks don't fall along a sorted list. Where ids differ, bodies that a
 /// test chooses have the order that they have among all, and the sorted list depends on no order.
 pub fn law_order()
     ensures front { (bodies : List Body)
-        → take (length (in_box bodies)) (sorted_by by_key bodies) ≡ sorted_by by_key (in_box bodies) }
+        → take (length (unescaped bodies)) (sorted_by by_key bodies) ≡ sorted_by by_key (unescaped bodies) }
     ensures back { (bodies : List Body)
-        → drop (length (in_box bodies)) (sorted_by by_key bodies)
+        → drop (length (unescaped bodies)) (sorted_by by_key bodies)
         ≡ sorted_by by_key (filter (λ b. b.out) bodies) }
     ensures present { (bodies : List Body)
-        → All (λ b. b.out ≡ false) (take (length (in_box bodies)) (sorted_by by_key bodies)) }
-    ensures index { (bodies : List Body) (j : ℕ) → j < length (in_box bodies)
-        → slice_get (sorted_by by_key bodies) j ≡ slice_get (sorted_by by_key (in_box bodies)) j }
+        → All (λ b. b.out ≡ false) (take (length (unescaped bodies)) (sorted_by by_key bodies)) }
+    ensures index { (bodies : List Body) (j : ℕ) → j < length (unescaped bodies)
+        → slice_get (sorted_by by_key bodies) j ≡ slice_get (sorted_by by_key (unescaped bodies)) j }
     ensures escaped { (bodies : List Body)
-        → All (λ b. b.out ≡ true) (drop (length (in_box bodies)) (sorted_by by_key bodies)) }
+        → All (λ b. b.out ≡ true) (drop (length (unescaped bodies)) (sorted_by by_key bodies)) }
     ensures stays { (bodies : List Body)
-        → in_box (sorted_by by_key bodies) ≡ sorted_by by_key (in_box bodies) }
+        → unescaped (sorted_by by_key bodies) ≡ sorted_by by_key (unescaped bodies) }
     ensures rising { (rank : Body → ℕ) (bodies : List Body)
         → IsNonDecreasingBy rank (sorted_by rank bodies) }
     ensures same { (rank : Body → ℕ) (a b : List Body) → HaveDifferentIds a → IsPermutation a b
@@ -52,27 +52,27 @@ pub fn law_in_cell()
     ensures member { (level key : ℕ) (bodies : List Body) (b : Body)
         → (Contains (in_cell level key bodies) b ↔ (Contains bodies b × (key_at level b.at ≡ key))) }
     ensures range { (level key : ℕ) (bodies : List Body) → IsKeyAt level key
-        → let all = in_box bodies in let cell = in_cell level key all in cell ≢ []
+        → let all = unescaped bodies in let cell = in_cell level key all in cell ≢ []
         → take (length cell) (drop (first_body all cell) (sorted_by by_key all)) ≡ sorted_by by_key cell }
     ensures sums { (f : Body → ℕ) (level key : ℕ) (bodies : List Body) → IsKeyAt level key
-        → let all = in_box bodies in let cell = in_cell level key all in cell ≢ []
+        → let all = unescaped bodies in let cell = in_cell level key all in cell ≢ []
         → sum_by f (take (length cell) (drop (first_body all cell) (sorted_by by_key all))) ≡ sum_by f cell }
     ensures within { (level key : ℕ) (bodies : List Body) → IsKeyAt level key
-        → let all = in_box bodies in let cell = in_cell level key all in cell ≢ []
+        → let all = unescaped bodies in let cell = in_cell level key all in cell ≢ []
         → first_body all cell + length cell ≤ length all }
     ensures index { (level key : ℕ) (bodies : List Body) → IsKeyAt level key
-        → let all = in_box bodies in let cell = in_cell level key all in cell ≢ []
+        → let all = unescaped bodies in let cell = in_cell level key all in cell ≢ []
         → (j : ℕ) (b : Body) → slice_get (sorted_by by_key all) j ≡ Some b
         → ((key_at level b.at ≡ key)
         ↔ ((first_body all cell ≤ j) × (j < first_body all cell + length cell))) }
     ensures follows { (level key octant : ℕ) (bodies : List Body) → IsKeyAt level key
         → level < deepest_level → octant < 8
-        → let all = in_box bodies in let cell = in_cell level key all in in_octant level cell octant ≢ []
+        → let all = unescaped bodies in let cell = in_cell level key all in in_octant level cell octant ≢ []
         → first_body all (in_octant level cell octant)
         ≡ first_body all cell + sum_by (λ o. length (in_octant level cell o)) (take octant octants) }
     ensures next { (level key octant later : ℕ) (bodies : List Body) → IsKeyAt level key
         → level < deepest_level → octant < later → later < 8
-        → let all = in_box bodies in let cell = in_cell level key all in in_octant level cell octant ≢ []
+        → let all = unescaped bodies in let cell = in_cell level key all in in_octant level cell octant ≢ []
         → in_octant level cell later ≢ []
         → ((between : ℕ) → octant < between → between < later → in_octant level cell between ≡ [])
         → first_body all (in_octant level cell later)

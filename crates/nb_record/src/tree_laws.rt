@@ -12,7 +12,7 @@ ghost use Rattle.nb_model.specs.Limits.{deepest_level, most_bodies};
 ghost use Rattle.nb_model.specs.Valid.{IsValidBody};
 ghost use Rattle.nb_model.specs.Octree.{in_octant, total_mass};
 ghost use Rattle.nb_model.specs.Gravity.{direct_sum};
-ghost use Rattle.nb_model.specs.Leapfrog.{in_box, kick};
+ghost use Rattle.nb_model.specs.Leapfrog.{unescaped, kick};
 ghost use Rattle.nb_key.specs.Morton.{IsKeyAt};
 ghost use Rattle.nb_record.specs.declared.cell.Cell.{Cell};
 ghost use Rattle.nb_record.specs.declared.tree.Tree.{Tree};
@@ -28,7 +28,7 @@ ghost use Rattle.nb_record.specs.Tree.{IsTreeOf};
 pub fn law_tree_cells()
     ensures exactly { (params : Params) (bodies : List Body) (cell : Cell)
         → (Contains (tree_cells params bodies) cell
-        ↔ ((level : ℕ) × IsTreeCell params (in_box bodies) level cell)) }
+        ↔ ((level : ℕ) × IsTreeCell params (unescaped bodies) level cell)) }
     ensures distinct { (params : Params) (bodies : List Body)
         → AllPairs (λ a b. a.key ≢ b.key) (tree_cells params bodies) }
     ensures one { (params : Params) (bodies : List Body) (a b : Cell)
@@ -36,11 +36,11 @@ pub fn law_tree_cells()
         → a.key ≡ b.key → a ≡ b }
     ensures level { (params : Params) (bodies : List Body) (level : ℕ) (cell : Cell)
         → Contains (tree_cells params bodies) cell → IsKeyAt level cell.key
-        → IsTreeCell params (in_box bodies) level cell }
+        → IsTreeCell params (unescaped bodies) level cell }
     ensures list { (params : Params) (bodies : List Body) (cells : List Cell)
         → AllPairs (λ a b. a.key ≢ b.key) cells
         → ((cell : Cell)
-        → (Contains cells cell ↔ ((level : ℕ) × IsTreeCell params (in_box bodies) level cell)))
+        → (Contains cells cell ↔ ((level : ℕ) × IsTreeCell params (unescaped bodies) level cell)))
         → IsPermutation cells (tree_cells params bodies) }
 {}
 
@@ -75,22 +75,22 @@ pub fn law_kid_bits()
 /// bodies, and they have the cell's mass.
 pub fn law_cell_bodies()
     ensures within { (params : Params) (bodies : List Body) (level : ℕ) (cell : Cell)
-        → IsTreeCell params (in_box bodies) level cell
-        → cell.first + cell.count ≤ length (in_box bodies) }
+        → IsTreeCell params (unescaped bodies) level cell
+        → cell.first + cell.count ≤ length (unescaped bodies) }
     ensures bodies { (params : Params) (bodies : List Body) (level : ℕ) (cell : Cell)
-        → IsTreeCell params (in_box bodies) level cell
+        → IsTreeCell params (unescaped bodies) level cell
         → take cell.count (drop cell.first (sorted_by by_key bodies))
-        ≡ sorted_by by_key (in_cell level cell.key (in_box bodies)) }
+        ≡ sorted_by by_key (in_cell level cell.key (unescaped bodies)) }
     ensures pulls { (params : Params) (bodies : List Body) (p : At) (level : ℕ) (cell : Cell)
-        → IsTreeCell params (in_box bodies) level cell
+        → IsTreeCell params (unescaped bodies) level cell
         → direct_sum params p (take cell.count (drop cell.first (sorted_by by_key bodies)))
-        ≡ direct_sum params p (in_cell level cell.key (in_box bodies)) }
+        ≡ direct_sum params p (in_cell level cell.key (unescaped bodies)) }
     ensures sums { (f : Body → ℕ) (params : Params) (bodies : List Body) (level : ℕ) (cell : Cell)
-        → IsTreeCell params (in_box bodies) level cell
+        → IsTreeCell params (unescaped bodies) level cell
         → sum_by f (take cell.count (drop cell.first (sorted_by by_key bodies)))
-        ≡ sum_by f (in_cell level cell.key (in_box bodies)) }
+        ≡ sum_by f (in_cell level cell.key (unescaped bodies)) }
     ensures mass { (params : Params) (bodies : List Body) (level : ℕ) (cell : Cell)
-        → IsTreeCell params (in_box bodies) level cell
+        → IsTreeCell params (unescaped bodies) level cell
         → total_mass (take cell.count (drop cell.first (sorted_by by_key bodies))) ≡ cell.mass }
 {}
 
@@ -103,12 +103,12 @@ pub fn law_tree_forms()
 /// A tree has a cell exactly where a body is in the box, and at most one on each of its 22 levels for each of
 /// these bodies.
 pub fn law_tree_counts()
-    ensures none { (params : Params) (bodies : List Body) → in_box bodies ≡ []
+    ensures none { (params : Params) (bodies : List Body) → unescaped bodies ≡ []
         → tree_cells params bodies ≡ [] }
-    ensures some { (params : Params) (bodies : List Body) → in_box bodies ≢ []
+    ensures some { (params : Params) (bodies : List Body) → unescaped bodies ≢ []
         → 1 ≤ length (tree_cells params bodies) }
     ensures most { (params : Params) (bodies : List Body)
-        → length (tree_cells params bodies) ≤ 22 * length (in_box bodies) }
+        → length (tree_cells params bodies) ≤ 22 * length (unescaped bodies) }
 {}
 
 /// The tree of a list of bodies, and its files, are those of the same bodies in any other order.

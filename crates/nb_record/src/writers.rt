@@ -4,8 +4,8 @@ ghost use Rattle.std.specs.Prelude.{◌≡◌, ℕ, ◌+◌, ◌-◌, ◌<◌, �
 ghost use Rattle.nb_model.specs.Bytes.{body_bytes, vector_bytes};
 ghost use Rattle.nb_model.specs.Limits.{kick_limit};
 ghost use Rattle.nb_model.specs.Valid.{IsBelow, IsValidBody};
-ghost use Rattle.nb_record.specs.Fields.{word_bytes, written};
-ghost use Rattle.nb_record.specs.Pages.{page_number, page_count, page_next, IsCellPage, IsBodyPage};
+ghost use Rattle.nb_record.specs.Fields.{u64_bytes, written};
+ghost use Rattle.nb_record.specs.Pages.{page_number, record_count, page_next, IsCellPage, IsBodyPage};
 ghost use Rattle.nb_record.specs.Records.{body_record, record_bytes};
 ghost use Rattle.nb_record.specs.Records.{kick_of, bodies_of, IsBodyRecord, FitsBodyRecord};
 ghost use Rattle.nb_record.specs.Records.{cell_bytes, cells_of, FitsCellRecord};
@@ -25,7 +25,7 @@ pub fn begin_body_page(into: &mut [u8], page: u64)
     ensures bytes { into.new ≡ empty_page page }
     ensures number { page_number into.new ≡ page }
     ensures form { IsBodyPage (page_number into.new) into.new }
-    ensures count { page_count into.new ≡ 0 }
+    ensures count { record_count into.new ≡ 0 }
     ensures bodies { bodies_of into.new ≡ [] }
     ensures padded { IsZeroPadded BODY_SIZE into.new }
 {
@@ -40,7 +40,7 @@ pub fn begin_cell_page(into: &mut [u8], page: u64)
     ensures number { page_number into.new ≡ page }
     ensures form { IsCellPage (page_number into.new) into.new }
     ensures next { page_next into.new ≡ 0 }
-    ensures count { page_count into.new ≡ 0 }
+    ensures count { record_count into.new ≡ 0 }
     ensures cells { cells_of into.new ≡ [] }
     ensures padded { IsZeroPadded CELL_SIZE into.new }
 {
@@ -53,11 +53,11 @@ pub fn set_next(into: &mut [u8], page: u64)
     requires size { length into.old ≡ PAGE_SIZE }
     requires form { IsCellPage (page_number into.old) into.old }
     requires later { page_number into.old < page }
-    ensures bytes { into.new ≡ written 16 (word_bytes page) into.old }
+    ensures bytes { into.new ≡ written 16 (u64_bytes page) into.old }
     ensures number { page_number into.new ≡ page_number into.old }
     ensures form { IsCellPage (page_number into.new) into.new }
     ensures next { page_next into.new ≡ page }
-    ensures count { page_count into.new ≡ page_count into.old }
+    ensures count { record_count into.new ≡ record_count into.old }
     ensures cells { cells_of into.new ≡ cells_of into.old }
     ensures padded { IsZeroPadded CELL_SIZE into.old → IsZeroPadded CELL_SIZE into.new }
 {
@@ -68,12 +68,12 @@ pub fn set_next(into: &mut [u8], page: u64)
 pub fn add_cell(into: &mut [u8], cell: &Cell)
     requires size { length into.old ≡ PAGE_SIZE }
     requires form { IsCellPage (page_number into.old) into.old }
-    requires room { page_count into.old < CELLS_PER_PAGE }
+    requires room { record_count into.old < CELLS_PER_PAGE }
     ensures bytes { into.new ≡ with_record CELL_SIZE (cell_bytes cell.now) into.old }
     ensures number { page_number into.new ≡ page_number into.old }
     ensures form { IsCellPage (page_number into.new) into.new }
     ensures next { page_next into.new ≡ page_next into.old }
-    ensures count { page_count into.new ≡ page_count into.old + 1 }
+    ensures count { record_count into.new ≡ record_count into.old + 1 }
     ensures cells { cells_of into.new ≡ cells_of into.old ++ cell.now ∷ [] }
     ensures padded { IsZeroPadded CELL_SIZE into.old → IsZeroPadded CELL_SIZE into.new }
 {
@@ -86,16 +86,16 @@ pub fn add_cell(into: &mut [u8], cell: &Cell)
 pub fn add_body(into: &mut [u8], body: &Body, kick: &V3)
     requires size { length into.old ≡ PAGE_SIZE }
     requires form { IsBodyPage (page_number into.old) into.old }
-    requires room { page_count into.old < BODIES_PER_PAGE }
+    requires room { record_count into.old < BODIES_PER_PAGE }
     requires kick { IsBelow kick_limit kick.now }
     ensures bytes { into.new ≡ with_record BODY_SIZE (record_bytes body.now kick.now) into.old }
     ensures number { page_number into.new ≡ page_number into.old }
     ensures form { IsBodyPage (page_number into.new) into.new }
-    ensures count { page_count into.new ≡ page_count into.old + 1 }
-    ensures kept { (i : ℕ) → i < page_count into.old → body_record i into.new ≡ body_record i into.old }
-    ensures valid { IsValidBody body.now → IsBodyRecord (body_record (page_count into.old) into.new) }
+    ensures count { record_count into.new ≡ record_count into.old + 1 }
+    ensures kept { (i : ℕ) → i < record_count into.old → body_record i into.new ≡ body_record i into.old }
+    ensures valid { IsValidBody body.now → IsBodyRecord (body_record (record_count into.old) into.new) }
     ensures bodies { bodies_of into.new ≡ bodies_of into.old ++ body.now ∷ [] }
-    ensures kick { kick_of (body_record (page_count into.old) into.new) ≡ kick.now }
+    ensures kick { kick_of (body_record (record_count into.old) into.new) ≡ kick.now }
     ensures padded { IsZeroPadded BODY_SIZE into.old → IsZeroPadded BODY_SIZE into.new }
 {
     let count = word_at(into, COUNT_AT);

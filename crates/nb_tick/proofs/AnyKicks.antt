@@ -13,7 +13,7 @@ use Rattle.nb_model.specs.declared.way.Way.{Way}
 use Rattle.nb_model.specs.Limits.{gm_limit, kick_limit}
 use Rattle.nb_model.specs.Octree.{total_mass}
 use Rattle.nb_model.specs.Valid.{IsBelow, IsValidBody, IsDriftedBody, IsValidBodies}
-use Rattle.nb_model.specs.Leapfrog.{in_box, escaped_count, half_kick, accelerate, kick, drift_body}
+use Rattle.nb_model.specs.Leapfrog.{unescaped, escaped_count, half_kick, accelerate, kick, drift_body}
 use Rattle.nb_model.proofs.Facts.{drift_body_cases, length-kick, ids-kick, total_mass-kick, escaped_count-kick, half_kick_below, kicked_again_body}
 use Rattle.nb_record.specs.Order.{by_key, by_id, sorted_by, IsSortedByRank, HaveDifferentIds}
 use Rattle.nb_record.proofs.Callers.{permuted, sorted, same_mass, length-sorted_by}
@@ -110,7 +110,7 @@ module _ (params : Params) (way : Way) (bodies : List Body) (list : List KickedB
   escaped_before =
       sym (sum_by-IsPermutation out_of bodies (sorted_by by_key bodies) (permuted by_key bodies)) ∙ ap escaped_count (sym is)
 
-  pub leaves : (from : Slot) (image : Image) (count escaped : ℕ) → length bodies ≡ count → escaped ≡ count - length (in_box drifted)
+  pub leaves : (from : Slot) (image : Image) (count escaped : ℕ) → length bodies ≡ count → escaped ≡ count - length (unescaped drifted)
       → HoldsList (image.file (slot_file (other_slot from))) (map (kicked_one way) (in_morton_order params drifted))
       → LeavesState params from bodies image escaped
   leaves from image count escaped many is_less holds =

@@ -12,11 +12,11 @@ use Rattle.nb_model.specs.declared.params.Params.{Params}
 use Rattle.nb_model.specs.declared.way.Way.{Way}
 use Rattle.nb_model.specs.declared.way.Way.TheVariants.{Forward, Back}
 use Rattle.nb_model.specs.Limits.{kick_limit}
-use Rattle.nb_model.specs.Valid.{IsBelow, IsValidBody, IsKickedBody, IsDriftedBody}
+use Rattle.nb_model.specs.Valid.{IsBelow, IsValidBody, IsBodyAfterKick, IsDriftedBody}
 use Rattle.nb_model.specs.Vector.{zero_vector}
 use Rattle.nb_model.specs.Octree.{total_mass}
 use Rattle.nb_model.specs.Gravity.{force_on}
-use Rattle.nb_model.specs.Leapfrog.{in_box, half_kick, changed, changed_along, accelerate, kick, drift_body, drift}
+use Rattle.nb_model.specs.Leapfrog.{unescaped, half_kick, changed, changed_along, accelerate, kick, drift_body, drift}
 use Rattle.nb_model.proofs.Facts.{map_agree, sum_by_agree, sum_by-map, same_vector, drift_body_cases, kicked_body, drifted_body}
 use Rattle.nb_record.specs.Order.{by_key, sorted_by}
 use Rattle.nb_record.proofs.Callers.{permuted}
@@ -39,9 +39,9 @@ drifted_mass params way k =
     drift_body_cases params way (first_kicked way k) (λ c. c.mass ≡ (first_kicked way k).mass) (λ _. refl) (λ _ _ _. refl) (λ _ _. refl)
     ∙ cond_both k.body.out k.body (accelerate way k.kick k.body) (λ c. c.mass ≡ k.body.mass) (λ _. refl) (λ _. refl)
 
-pub first_kicked_valid : (way : Way) (k : KickedBody) → IsValidBody k.body → IsBelow kick_limit k.kick → IsKickedBody (first_kicked way k)
+pub first_kicked_valid : (way : Way) (k : KickedBody) → IsValidBody k.body → IsBelow kick_limit k.kick → IsBodyAfterKick (first_kicked way k)
 first_kicked_valid way k valid small =
-    cond_both k.body.out k.body (accelerate way k.kick k.body) IsKickedBody
+    cond_both k.body.out k.body (accelerate way k.kick k.body) IsBodyAfterKick
     (λ out. record { some_mass = valid.some_mass; mass = valid.mass; at = valid.at; speed = λ inside. absurd (both_ways k.body.out inside out) })
     (λ _. kicked_body way k.body k.kick valid small)
 
@@ -62,7 +62,7 @@ accelerate-zero way b =
 
 -- a body that is out gets no half kick
 pub half_kick-out : (params : Params) (bodies : List Body) (b : Body) → b.out ≡ true → half_kick params bodies b ≡ zero_vector
-half_kick-out params bodies b out = ap (λ (t : Bool). cond t zero_vector (force_on params b.at 0 (in_box bodies))) out
+half_kick-out params bodies b out = ap (λ (t : Bool). cond t zero_vector (force_on params b.at 0 (unescaped bodies))) out
 
 first_kicked-half : (params : Params) (way : Way) (bodies : List Body) (b : Body)
     → first_kicked way (half_kicked params bodies b) ≡ accelerate way (half_kick params bodies b) b

@@ -8,7 +8,7 @@ use Rattle.nb_model.specs.declared.body.Body.{Body}
 use Rattle.nb_model.specs.declared.params.Params.{Params}
 use Rattle.nb_model.specs.declared.way.Way.{Way}
 use Rattle.nb_model.specs.Vector.{zero_vector}
-use Rattle.nb_model.specs.Leapfrog.{in_box, half_kick, accelerate, drifted, drift_of, moved_to, drift_body}
+use Rattle.nb_model.specs.Leapfrog.{unescaped, half_kick, accelerate, drifted, drift_of, moved_to, drift_body}
 use Rattle.nb_record.specs.Order.{by_key, sorted_by}
 use Rattle.nb_record.proofs.Callers.{front, escaped}
 use Rattle.nb_order.specs.declared.body_file.KickedBody.{KickedBody}
@@ -50,17 +50,17 @@ rested params bodies made rests (k ∷ ks) out =
 -- The front of the order are the bodies in the box, and behind them those that are out stay as they are.
 pub front_and_back : (params : Params) (bodies : List Body) (made : KickedBody → KickedBody) → Rests params bodies made → (list : List KickedBody)
     → without_kicks list ≡ sorted_by by_key bodies
-    → map made (map (half_kicked params bodies) (sorted_by by_key (in_box bodies))) ++ map resting_one (drop (length (in_box bodies)) list)
+    → map made (map (half_kicked params bodies) (sorted_by by_key (unescaped bodies))) ++ map resting_one (drop (length (unescaped bodies)) list)
     ≡ map made (in_morton_order params bodies)
 front_and_back params bodies made rests list is =
-    let n = length (in_box bodies) in
+    let n = length (unescaped bodies) in
     let sorted = sorted_by by_key bodies in
     let each = λ (l : List Body). map made (map (half_kicked params bodies) l) in
     let behind : without_kicks (drop n list) ≡ drop n sorted = drop-without_kicks n list ∙ ap (drop n) is in
     let back : map resting_one (drop n list) ≡ each (drop n sorted) =
     rested params bodies made rests (drop n list) (All-same (λ (b : Body). b.out ≡ true) (without_kicks (drop n list)) (drop n sorted) behind (escaped bodies))
     ∙ ap each behind in
-    ap (λ (l : List KickedBody). each (sorted_by by_key (in_box bodies)) ++ l) back
+    ap (λ (l : List KickedBody). each (sorted_by by_key (unescaped bodies)) ++ l) back
     ∙ ap (λ (l : List Body). each l ++ each (drop n sorted)) (sym (front bodies))
     ∙ sym (map-append made (map (half_kicked params bodies) (take n sorted)) (map (half_kicked params bodies) (drop n sorted)))
     ∙ ap (map made) (sym (map-append (half_kicked params bodies) (take n sorted) (drop n sorted)))

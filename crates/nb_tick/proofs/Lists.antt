@@ -84,9 +84,6 @@ held_list-known file kick bodies holds =
 
 -- ---- a file with one body more
 
-pub length-list : {file : List ℕ} {list : List KickedBody} → HoldsList file list → (bodies : List Body) → without_kicks list ≡ bodies → length list ≡ length bodies
-length-list {list = list} holds bodies is = sym (length-without_kicks list) ∙ ap length is
-
 pushed_cases : (list : List KickedBody) (k one : KickedBody) (j : ℕ) → slice_get (list ++ k ∷ []) j ≡ Some one
     → (slice_get list j ≡ Some one) × (j < length list) ⊎ ((j ≡ length list) × (k ≡ one))
 pushed_cases [] k one zero is = inr (refl, same_Some k one is)

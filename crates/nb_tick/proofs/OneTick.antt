@@ -15,7 +15,7 @@ use Rattle.nb_record.specs.declared.sizes.TheConstants.{BODY_SIZE}
 use Rattle.nb_record.specs.declared.tree.Tree.{Tree}
 use Rattle.nb_record.specs.Tree.{IsTreeOf}
 use Rattle.nb_record.specs.Writing.{IsZeroPaddedFile}
-use Rattle.nb_tree.specs.Builds.{IsInRange}
+use Rattle.nb_tree.specs.Builds.{IsTreeInRange}
 use Rattle.nb_tick.specs.declared.slot.Slot.{Slot}
 use Rattle.nb_tick.specs.Slots.{slot_file, other_slot, drifted_file, sorted_file, cell_file, tick_files}
 use Rattle.nb_tick.specs.State.{HoldsState, HoldsKickedState}
@@ -56,7 +56,7 @@ module _ {H : Type 0} (m : HostModel H) (params : Params) (way : Way) (known : B
           (moved_long params way known count bodies valid long slot_bytes drifted are) list.different list.gm;
     }
 
-    module _ (c2 : CacheValue) (h2 : H) (tree : Tree) (has : IsTrue m.tells → HasTreeOf params count (seen m c1 h1 drifted_file) (seen m c2 h2) tree) (range : IsInRange params sorted_file cell_file count tree) (to : ℕ) (to_is : to ≡ slot_file (other_slot from)) where
+    module _ (c2 : CacheValue) (h2 : H) (tree : Tree) (has : IsTrue m.tells → HasTreeOf params count (seen m c1 h1 drifted_file) (seen m c2 h2) tree) (range : IsTreeInRange params sorted_file cell_file count tree) (to : ℕ) (to_is : to ≡ slot_file (other_slot from)) where
       pub no_kick : {name : PageName} → CantKick m params (tree.bodies ∷ tree.cells ∷ to ∷ []) tree count c2 h2 name → IsNoState m params from count h0 name
       no_kick {name = name} cant = record {
         file = page_kick from to tree.bodies tree.cells name.file to_is range.bodies_are range.cells_are cant.file;

@@ -8,7 +8,7 @@ use Rattle.nb_model.specs.declared.params.Params.{Params}
 use Rattle.nb_model.specs.declared.way.Way.{Way}
 use Rattle.nb_model.specs.Limits.{kick_limit, most_bodies}
 use Rattle.nb_model.specs.Valid.{IsBelow, IsValidBodies}
-use Rattle.nb_model.specs.Leapfrog.{in_box, half_kick}
+use Rattle.nb_model.specs.Leapfrog.{unescaped, half_kick}
 use Rattle.nb_model.proofs.Facts.{half_kick_below}
 use Rattle.nb_host.specs.Meaning.{HostModel}
 use Rattle.nb_host.specs.declared.page_name.PageName.{PageName}
@@ -79,14 +79,14 @@ drifted_found params way bodies slot drifted valid holds = record {
 }
 
 -- behind the bodies in the box those that are out
-module _ {H : Type 0} (m : HostModel H) (params : Params) (from begin count : ℕ) (middle_cache : CacheValue) (middle : H) (before : WriterValue) (bodies : List Body) (made : KickedBody → KickedBody) (rests : Rests params bodies made) (long : length bodies ≡ count) (inside : begin ≡ length (in_box bodies)) (holds : HoldsBodies (seen m middle_cache middle from) (sorted_by by_key bodies)) (has : HasWritten (seen m middle_cache middle) before (map made (map (half_kicked params bodies) (sorted_by by_key (in_box bodies))))) where
+module _ {H : Type 0} (m : HostModel H) (params : Params) (from begin count : ℕ) (middle_cache : CacheValue) (middle : H) (before : WriterValue) (bodies : List Body) (made : KickedBody → KickedBody) (rests : Rests params bodies made) (long : length bodies ≡ count) (inside : begin ≡ length (unescaped bodies)) (holds : HoldsBodies (seen m middle_cache middle from) (sorted_by by_key bodies)) (has : HasWritten (seen m middle_cache middle) before (map made (map (half_kicked params bodies) (sorted_by by_key (unescaped bodies))))) where
   pub escaped_behind : (new_cache : CacheValue) (new : H) (after : WriterValue) → HasCopied m resting_one from begin count middle_cache middle before new_cache new after
       → IsTrue m.tells → HasWritten (seen m new_cache new) after (map made (in_morton_order params bodies))
   escaped_behind new_cache new after copied tells =
       let file = seen m middle_cache middle from in
       let list = held_list file (sorted_by by_key bodies) in
       let many : length list ≡ count = length-held_list file bodies count long in
-      let front = map made (map (half_kicked params bodies) (sorted_by by_key (in_box bodies))) in
+      let front = map made (map (half_kicked params bodies) (sorted_by by_key (unescaped bodies))) in
       let is : front ++ map resting_one (take (count - begin) (drop begin list)) ≡ map made (in_morton_order params bodies) =
       ap (λ (l : List KickedBody). front ++ map resting_one l) (take_end list begin count many)
       ∙ ap (λ (n : ℕ). front ++ map resting_one (drop n list)) inside
@@ -99,9 +99,9 @@ module _ {H : Type 0} (m : HostModel H) (params : Params) (from begin count : �
       let file = seen m middle_cache middle from in
       let list = held_list file (sorted_by by_key bodies) in
       let many : length list ≡ count = length-held_list file bodies count long in
-      let front = map made (map (half_kicked params bodies) (sorted_by by_key (in_box bodies))) in
+      let front = map made (map (half_kicked params bodies) (sorted_by by_key (unescaped bodies))) in
       let written : length front ≡ begin =
-      length-map (map (half_kicked params bodies) (sorted_by by_key (in_box bodies))) made
-      ∙ length-map (sorted_by by_key (in_box bodies)) (half_kicked params bodies) ∙ length-sorted_by by_key (in_box bodies) ∙ sym inside in
+      length-map (map (half_kicked params bodies) (sorted_by by_key (unescaped bodies))) made
+      ∙ length-map (sorted_by by_key (unescaped bodies)) (half_kicked params bodies) ∙ length-sorted_by by_key (unescaped bodies) ∙ sym inside in
       cant.cause tells list (held_list-holds file (sorted_by by_key bodies) holds) (omega (arith, many)) front has
       (omega (arith, has.count_is, written, less, few))

@@ -9,7 +9,6 @@ use Rattle.nb_tree.specs.declared.tree_error.TreeError.{TreeError}
 use Rattle.nb_tree.specs.declared.tree_error.TreeError.TheVariants as tree
 use Rattle.nb_force.specs.declared.force_error.ForceError.{ForceError}
 use Rattle.nb_force.specs.declared.force_error.ForceError.TheVariants as force
-use Rattle.nb_force.specs.Errors.{of_order as force_of_order}
 use Rattle.nb_tick.specs.declared.tick_error.TickError.TheVariants.{Fault, Damaged}
 use Rattle.nb_tick.specs.Errors.{of_cache, of_order, of_tree, of_force}
 
@@ -52,14 +51,3 @@ pub force_damaged : (error : ForceError) (name : PageName) → of_force error �
 force_damaged force.Fault name is = cc
 force_damaged force.NoMemory name is = cc
 force_damaged (force.Damaged other) name is = cc
-
--- within a receiver
-pub taken_fault : (error : OrderError) → force_of_order error ≡ force.Fault → error ≡ order.Fault
-taken_fault order.Fault is = cc
-taken_fault order.NoMemory is = cc
-taken_fault (order.Damaged name) is = cc
-
-pub taken_damaged : (error : OrderError) (name : PageName) → force_of_order error ≡ force.Damaged name → error ≡ order.Damaged name
-taken_damaged order.Fault name is = cc
-taken_damaged order.NoMemory name is = cc
-taken_damaged (order.Damaged other) name is = cc

@@ -11,8 +11,8 @@ use Rattle.nb_model.specs.declared.params.Params.{Params}
 use Rattle.nb_model.specs.declared.way.Way.{Way}
 use Rattle.nb_model.specs.Limits.{most_bodies}
 use Rattle.nb_model.specs.Valid.{IsDriftedBody}
-use Rattle.nb_model.specs.Leapfrog.{in_box}
-use Rattle.nb_model.proofs.Facts.{length-in_box-le}
+use Rattle.nb_model.specs.Leapfrog.{unescaped}
+use Rattle.nb_model.proofs.Facts.{length-unescaped-le}
 use Rattle.nb_cache.specs.View.{CacheValue, seen}
 use Rattle.nb_cache.specs.Writes.{Writes}
 use Rattle.nb_cache.proofs.Callers.{other_file}
@@ -26,7 +26,7 @@ use Rattle.nb_record.specs.Writing.{IsZeroPaddedFile}
 use Rattle.nb_record.proofs.Callers.{permuted, length-sorted_by}
 use Rattle.nb_order.specs.declared.body_file.KickedBody.{KickedBody}
 use Rattle.nb_force.specs.Kicks.{kicked_bodies, indexed_from}
-use Rattle.nb_force.specs.Receiver.{Given}
+use Rattle.nb_force.specs.Receiver.{HandedBody}
 use Rattle.nb_tick.specs.Steps.{HoldsList, half_kicked, in_morton_order, kicked_one, resting_one, CantKick}
 use Rattle.nb_tick.specs.Writer.{WriterValue, HasWritten, CanAdd, HasCopied, CantCopy}
 use Rattle.nb_tick.proofs.Kicks.{rests_kicked}
@@ -57,14 +57,14 @@ widened file same (zero, below, is) = (0, omega arith, is)
 widened file same (suc zero, below, is) = (2, omega arith, sym same ∙ is)
 widened file same (suc (suc k), below, is) = absurd (omega arith)
 
-length-front : (params : Params) (bodies : List Body) → length (kicked_bodies params bodies) ≡ length (in_box bodies)
+length-front : (params : Params) (bodies : List Body) → length (kicked_bodies params bodies) ≡ length (unescaped bodies)
 length-front params bodies =
-    length-map (sorted_by by_key (in_box bodies)) (half_kicked params bodies) ∙ length-sorted_by by_key (in_box bodies)
+    length-map (sorted_by by_key (unescaped bodies)) (half_kicked params bodies) ∙ length-sorted_by by_key (unescaped bodies)
 
 front_slow : (params : Params) (bodies : List Body) → All IsDriftedBody bodies
     → All (λ one. IsDriftedBody one.body) (kicked_bodies params bodies)
 front_slow params bodies slow =
-    let inside = in_box bodies in
+    let inside = unescaped bodies in
     All-map (λ (one : KickedBody). IsDriftedBody one.body) (half_kicked params bodies) (sorted_by by_key inside)
     (All-permutation IsDriftedBody inside (sorted_by by_key inside) (permuted by_key inside)
     (All-filter (λ (b : Body). not b.out) IsDriftedBody bodies slow))
@@ -108,20 +108,20 @@ module _ {H : Type 0} (m : HostModel H) (params : Params) (tree : Tree) (to coun
           record {
             list = [];
             written = none_yet tells;
-            room = omega (arith, none, length-front params bodies, length-in_box-le bodies, long, few);
+            room = omega (arith, none, length-front params bodies, length-unescaped-le bodies, long, few);
           },
           front_slow params bodies slow,
         ));
   }
 
   -- The bodies in the box were handed over.
-  module _ (kicked_cache : CacheValue) (kicked : H) (after : WriterValue) (way_after : Way) (handed : Writes m (begun.file ∷ []) empty_cache empty kicked_cache kicked) (taken : IsTrue m.tells → (bodies : List Body) → IsTreeOf tree (seen m empty_cache empty) params bodies → (list : List Given) → HasWritten (seen m empty_cache empty) begun (map (λ g. kicked_one way g.kicked) list) → HasWritten (seen m kicked_cache kicked) after (map (λ g. kicked_one way_after g.kicked) (list ++ indexed_from 0 (kicked_bodies params bodies)))) (same_file : after.file ≡ begun.file) (same_way : way_after ≡ way) where
+  module _ (kicked_cache : CacheValue) (kicked : H) (after : WriterValue) (way_after : Way) (handed : Writes m (begun.file ∷ []) empty_cache empty kicked_cache kicked) (taken : IsTrue m.tells → (bodies : List Body) → IsTreeOf tree (seen m empty_cache empty) params bodies → (list : List HandedBody) → HasWritten (seen m empty_cache empty) begun (map (λ g. kicked_one way g.kicked) list) → HasWritten (seen m kicked_cache kicked) after (map (λ g. kicked_one way_after g.kicked) (list ++ indexed_from 0 (kicked_bodies params bodies)))) (same_file : after.file ≡ begun.file) (same_way : way_after ≡ way) where
     pub after_file : after.file ≡ to
     after_file = same_file ∙ begun_file
 
     front_written : IsTrue m.tells → (bodies : List Body) → IsTreeOf tree (seen m cache host) params bodies
         → HasWritten (seen m kicked_cache kicked) after
-        (map (kicked_one way) (map (half_kicked params bodies) (sorted_by by_key (in_box bodies))))
+        (map (kicked_one way) (map (half_kicked params bodies) (sorted_by by_key (unescaped bodies))))
     front_written tells bodies of_tree =
         let list = kicked_bodies params bodies in
         subst (λ (w : Way). HasWritten (seen m kicked_cache kicked) after (map (kicked_one w) list)) same_way

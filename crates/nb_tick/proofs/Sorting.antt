@@ -5,7 +5,7 @@ use Rattle.nb_host.specs.declared.page_name.PageName.{PageName}
 use Rattle.nb_model.specs.declared.params.Params.{Params}
 use Rattle.nb_cache.specs.View.{CacheValue, seen}
 use Rattle.nb_order.specs.Files.{IsSortedCopy}
-use Rattle.nb_order.specs.Refusals.{IsUnsorted}
+use Rattle.nb_order.specs.Refusals.{IsSortRefused}
 use Rattle.nb_record.specs.declared.tree.Tree.{Tree}
 use Rattle.nb_record.specs.Order.{by_key}
 use Rattle.nb_record.proofs.Callers.{sorted}
@@ -16,7 +16,7 @@ use Rattle.nb_tick.specs.Steps.{HasTreeOf, CantSort}
 use Rattle.nb_tick.proofs.Trees.{never_no_tree}
 
 module _ {H : Type 0} {m : HostModel H} {params : Params} {count : ℕ} {old_cache : CacheValue} {old : H} {name : PageName} where
-  pub cant_reorder : IsUnsorted m by_key old_cache old drifted_file sorted_file count name → CantSort m params count old_cache old name
+  pub cant_reorder : IsSortRefused m by_key old_cache old drifted_file sorted_file count name → CantSort m params count old_cache old name
   cant_reorder unsorted = record {
     file = elim unsorted.file [ inl is ↦ (0, omega arith, sym is) | inr is ↦ (1, omega arith, sym is) ];
     cause = λ tells moved holds long different gm. unsorted.listed tells moved holds long different;

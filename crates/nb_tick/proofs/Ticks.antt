@@ -14,7 +14,7 @@ use Rattle.nb_model.specs.declared.way.Way.{Way}
 use Rattle.nb_model.specs.Limits.{gm_limit, kick_limit}
 use Rattle.nb_model.specs.Octree.{total_mass}
 use Rattle.nb_model.specs.Valid.{IsBelow, IsInBox, IsValidBody, IsDriftedBody, IsValidBodies}
-use Rattle.nb_model.specs.Leapfrog.{in_box, escaped_count, half_kick, accelerate, kick, drift, step}
+use Rattle.nb_model.specs.Leapfrog.{unescaped, escaped_count, half_kick, accelerate, kick, drift, step}
 use Rattle.nb_model.proofs.Facts.{map_agree, half_kick-accelerated, length-kick, ids-kick, escaped_count-kick}
 use Rattle.nb_record.specs.Cells.{tree_cells}
 use Rattle.nb_record.specs.Order.{by_key, sorted_by, HaveDifferentIds, HoldsBodies}
@@ -38,10 +38,10 @@ ids_differ xs ys same different i j d before within =
     λ k below. sym (get_or-map id ys k d 0 below) ∙ ap (λ l. get_or l k 0) same ∙ get_or-map id xs k d 0 (omega (arith, long)) in
     λ equal. different i j d before (omega (arith, long)) (sym (at i (omega arith)) ∙ equal ∙ at j within)
 
-pub in_and_out : (bodies : List Body) → length (in_box bodies) + escaped_count bodies ≡ length bodies
+pub in_and_out : (bodies : List Body) → length (unescaped bodies) + escaped_count bodies ≡ length bodies
 in_and_out [] = refl
 in_and_out (b ∷ bs) = omega (arith, sum_by-cons (λ (c : Body). cond c.out 1 0) b bs, in_and_out bs, one b.out) where
-  one : (t : Bool) → length (cond (not t) (b ∷ in_box bs) (in_box bs)) + cond t 1 0 ≡ length (in_box bs) + 1
+  one : (t : Bool) → length (cond (not t) (b ∷ unescaped bs) (unescaped bs)) + cond t 1 0 ≡ length (unescaped bs) + 1
   one true = omega arith
   one false = omega arith
 
@@ -154,7 +154,7 @@ module _ (params : Params) (way : Way) (bodies drifted : List Body) (valid : IsV
     table = subst (IsCellTable file bits pages) (same_tree params drifted before back ∙ sym (kicked_tree params params way before)) table;
   }
 
-  pub stepped_escaped : (count escaped : ℕ) → length bodies ≡ count → escaped ≡ count - length (in_box drifted) → escaped ≡ escaped_count after
+  pub stepped_escaped : (count escaped : ℕ) → length bodies ≡ count → escaped ≡ count - length (unescaped drifted) → escaped ≡ escaped_count after
   stepped_escaped count escaped long is_less =
       let same : escaped_count drifted ≡ escaped_count before =
       sum_by-IsPermutation (λ (b : Body). cond b.out 1 0) before drifted is in

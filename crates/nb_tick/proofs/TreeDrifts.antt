@@ -7,8 +7,8 @@ use Rattle.nb_model.specs.declared.params.Params.{Params}
 use Rattle.nb_model.specs.declared.way.Way.{Way}
 use Rattle.nb_model.specs.Limits.{most_bodies}
 use Rattle.nb_model.specs.Valid.{IsValidBodies}
-use Rattle.nb_model.specs.Leapfrog.{in_box}
-use Rattle.nb_model.proofs.Facts.{length-in_box-le}
+use Rattle.nb_model.specs.Leapfrog.{unescaped}
+use Rattle.nb_model.proofs.Facts.{length-unescaped-le}
 use Rattle.nb_host.specs.Meaning.{HostModel}
 use Rattle.nb_host.specs.declared.page_name.PageName.{PageName}
 use Rattle.nb_cache.specs.View.{CacheValue, seen}
@@ -19,10 +19,10 @@ use Rattle.nb_record.specs.Order.{by_key, sorted_by}
 use Rattle.nb_record.specs.Tree.{IsTreeOf}
 use Rattle.nb_record.proofs.Callers.{different_ids, length-sorted_by}
 use Rattle.nb_order.specs.declared.body_file.KickedBody.{KickedBody}
-use Rattle.nb_tree.specs.Builds.{Builds, IsInRange}
+use Rattle.nb_tree.specs.Builds.{Builds, IsTreeInRange}
 use Rattle.nb_tree.specs.Refusals.{IsNoTree}
 use Rattle.nb_force.specs.Kicks.{kicked_of, kicked_bodies, indexed_from}
-use Rattle.nb_force.specs.Receiver.{Given}
+use Rattle.nb_force.specs.Receiver.{HandedBody}
 use Rattle.nb_tick.specs.Slots.{drifted_file, cell_file}
 use Rattle.nb_tick.specs.State.{HoldsState}
 use Rattle.nb_tick.specs.Steps.{half_kicked, in_morton_order, drifted_one, resting_one, HoldsList, IsDrifted, CantDrift}
@@ -67,7 +67,7 @@ pub record IsReady {H : Type 0} (m : HostModel H) (params : Params) (from count 
   pub few : count ≤ most_bodies
   pub empty : IsTrue m.tells → seen m cache host drifted_file ≡ []
   pub builds : IsTrue m.tells → Builds params from count (seen m cache host) (seen m built_cache built) tree
-  pub range : IsInRange params from cell_file count tree
+  pub range : IsTreeInRange params from cell_file count tree
   pub writes : Writes m (cell_file ∷ []) cache host built_cache built
   pub fresh : before ≡ record { file = drifted_file; count = 0 }
 
@@ -76,7 +76,7 @@ pub record AreTaken {H : Type 0} (m : HostModel H) (params : Params) (way : Way)
   pub setting : set ≡ (params, way)
   pub file : after.file ≡ before.file
   pub taken : IsTrue m.tells → (bodies : List Body) → IsTreeOf tree (seen m old_cache old) params bodies
-      → (list : List Given) → HasWritten (seen m old_cache old) before (map (λ g. drifted_one params way g.kicked) list)
+      → (list : List HandedBody) → HasWritten (seen m old_cache old) before (map (λ g. drifted_one params way g.kicked) list)
       → HasWritten (seen m new_cache new) after
       (map (λ g. drifted_one set.0 set.1 g.kicked) (list ++ indexed_from 0 (kicked_bodies params bodies)))
   pub writes : Writes m (before.file ∷ []) old_cache old new_cache new
@@ -103,15 +103,15 @@ module _ {H : Type 0} {m : HostModel H} {params : Params} {from count : ℕ} {ca
   can_take : IsTrue m.tells → (bodies : List Body) → length bodies ≡ count
       → CanAdd (seen m built_cache built) before (length (kicked_bodies params bodies ++ []))
   can_take tells bodies long =
-      let inside = sorted_by by_key (in_box bodies) in
-      let all : length (kicked_bodies params bodies ++ []) ≡ length (in_box bodies) =
+      let inside = sorted_by by_key (unescaped bodies) in
+      let all : length (kicked_bodies params bodies ++ []) ≡ length (unescaped bodies) =
       ap length (append-nil (kicked_bodies params bodies)) ∙ length-map inside (kicked_of params bodies)
-      ∙ length-sorted_by by_key (in_box bodies) in
+      ∙ length-sorted_by by_key (unescaped bodies) in
       let none : before.count ≡ 0 = ap (λ (w : WriterValue). w.count) ready.fresh in
       record {
         list = [];
         written = none_written tells;
-        room = omega (arith, none, all, length-in_box-le bodies, long, ready.few);
+        room = omega (arith, none, all, length-unescaped-le bodies, long, ready.few);
       }
 
   -- so the kicks of valid bodies can be handed over
@@ -136,11 +136,11 @@ module _ {H : Type 0} {m : HostModel H} {params : Params} {from count : ℕ} {ca
   module _ {way : Way} {kicked_cache : CacheValue} {kicked : H} {after : WriterValue} {set : Params × Way} (are : AreTaken m params way tree built_cache built before kicked_cache kicked after set) where
     kicked_written : IsTrue m.tells → (bodies : List Body) → IsTreeOf tree (seen m built_cache built) params bodies
         → HasWritten (seen m kicked_cache kicked) after
-        (map (drifted_one params way) (map (half_kicked params bodies) (sorted_by by_key (in_box bodies))))
+        (map (drifted_one params way) (map (half_kicked params bodies) (sorted_by by_key (unescaped bodies))))
     kicked_written tells bodies is =
         let given = indexed_from 0 (kicked_bodies params bodies) in
         subst (HasWritten (seen m kicked_cache kicked) after)
-        (ap (λ (s : Params × Way). map (λ (g : Given). drifted_one s.0 s.1 g.kicked) given) are.setting
+        (ap (λ (s : Params × Way). map (λ (g : HandedBody). drifted_one s.0 s.1 g.kicked) given) are.setting
         ∙ taken_list (drifted_one params way) 0 (kicked_bodies params bodies))
         (are.taken tells bodies is [] (none_written tells))
 

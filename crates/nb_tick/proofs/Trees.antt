@@ -4,8 +4,7 @@ use Rattle.nb_model.specs.declared.body.Body.{Body}
 use Rattle.nb_model.specs.declared.params.Params.{Params}
 use Rattle.nb_model.specs.Limits.{gm_limit}
 use Rattle.nb_model.specs.Octree.{total_mass}
-use Rattle.nb_model.specs.Valid.{AreInRange}
-use Rattle.nb_model.proofs.Facts.{gm-in_box}
+use Rattle.nb_model.proofs.Facts.{gm-unescaped}
 use Rattle.nb_host.specs.Meaning.{HostModel}
 use Rattle.nb_host.specs.declared.page_name.PageName.{PageName}
 use Rattle.nb_cache.specs.View.{CacheValue, seen}
@@ -14,16 +13,10 @@ use Rattle.nb_record.specs.Order.{by_key, sorted_by, HaveDifferentIds, HoldsBodi
 use Rattle.nb_record.specs.Tree.{IsTreeOf}
 use Rattle.nb_record.proofs.Callers.{permuted, sorted, same_mass, length-sorted_by}
 use Rattle.nb_order.specs.declared.body_file.KickedBody.{KickedBody}
-use Rattle.nb_tree.specs.Builds.{Builds, IsInRange}
+use Rattle.nb_tree.specs.Builds.{Builds}
 use Rattle.nb_tree.specs.Refusals.{IsNoTree}
-use Rattle.nb_walk.specs.Shown.{IsWalkable}
 use Rattle.nb_force.specs.Kicks.{indexed_from}
-use Rattle.nb_force.specs.Receiver.{Given}
-
--- a tree that was built can be walked
-pub walkable : (params : Params) (bodies cells count : ℕ) (tree : Tree) → AreInRange params → IsInRange params bodies cells count tree
-    → IsWalkable params tree
-walkable params bodies cells count tree ranges is = record { ranges = ranges; gm = is.gm; bits = is.bits; pages = is.pages }
+use Rattle.nb_force.specs.Receiver.{HandedBody}
 
 -- the tree of bodies with different ids
 pub tree_of : (params : Params) (file count : ℕ) (before now : ℕ → List ℕ) (tree : Tree) (bodies : List Body) → Builds params file count before now tree
@@ -39,12 +32,12 @@ never_no_tree m params cache host file cells count name bodies none holds differ
     let order = sorted_by by_key bodies in
     let heavy = none.listed tells order holds (length-sorted_by by_key bodies ∙ long) (sorted by_key bodies different) in
     let same : total_mass bodies ≡ total_mass order = same_mass bodies order (permuted by_key bodies) in
-    let light = gm-in_box params.grav order (subst (λ (n : ℕ). params.grav * n < gm_limit) same gm) in
+    let light = gm-unescaped params.grav order (subst (λ (n : ℕ). params.grav * n < gm_limit) same gm) in
     omega (arith, heavy, light)
 
 -- the indexes of what a receiver takes aren't looked at
 pub taken_list : (made : KickedBody → KickedBody) (from : ℕ) (list : List KickedBody)
-    → map (λ (g : Given). made g.kicked) (indexed_from from list) ≡ map made list
+    → map (λ (g : HandedBody). made g.kicked) (indexed_from from list) ≡ map made list
 unfolding indexed_from
 taken_list made from [] = refl
 taken_list made from (k ∷ ks) = ap (λ l. made k ∷ l) (taken_list made (suc from) ks)

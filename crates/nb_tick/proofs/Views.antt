@@ -14,16 +14,16 @@ use Rattle.nb_cache.proofs.Callers.{no_file}
 use Rattle.nb_record.proofs.Callers.{either}
 
 overlaid_none : (file : ℕ) (held : List Held) (bytes : List ℕ)
-    → ((h : Held) → Contains held h → h.waiting ≡ true → h.name.file ≡ file → ⊥) → overlaid file held bytes ≡ bytes
+    → ((h : Held) → Contains held h → h.dirty ≡ true → h.name.file ≡ file → ⊥) → overlaid file held bytes ≡ bytes
 overlaid_none file [] bytes none = refl
 overlaid_none file (h ∷ held) bytes none =
-    elim (waits h.waiting h.name.file file) [
+    elim (waits h.dirty h.name.file file) [
       | inl both ↦ absurd (none h (0, omega arith, refl) both.0 both.1)
       | inr not_both ↦
           ap (λ (t : Bool). cond t (overwritten (page_start h.name.page) h.bytes (overlaid file held bytes)) (overlaid file held bytes)) not_both
           ∙ overlaid_none file held bytes (λ one has. none one (behind one has))
     ] where
-      waits : (waiting : Bool) (m n : ℕ) → ((waiting ≡ true) × (m ≡ n)) ⊎ ((waiting && (m == n)) ≡ false)
+      waits : (dirty : Bool) (m n : ℕ) → ((dirty ≡ true) × (m ≡ n)) ⊎ ((dirty && (m == n)) ≡ false)
       waits true m n = elim (either (m == n)) [ inl is ↦ inl (refl, grind (arith, nat_tests)) | inr isnt ↦ inr isnt ]
       waits false m n = inr refl
 
@@ -35,7 +35,7 @@ pub seen_written : {H : Type 0} (m : HostModel H) (cache : CacheValue) (host : H
     → IsInStep m cache host → IsTrue m.tells → seen m cache host file ≡ (m.contents host).file file
 seen_written m cache host file written in_step tells =
     overlaid_none file cache.held ((m.contents host).file file)
-    (λ h has waiting is. written (subst (Contains cache.unwritten) is ((in_step tells).marked h has waiting)))
+    (λ h has dirty is. written (subst (Contains cache.unwritten) is ((in_step tells).marked h has dirty)))
 
 pub seen_flushed : {H : Type 0} (m : HostModel H) (cache : CacheValue) (host : H) → cache.unwritten ≡ [] → IsInStep m cache host
     → IsTrue m.tells → (file : ℕ) → seen m cache host file ≡ (m.contents host).file file

@@ -8,7 +8,7 @@ ghost use Rattle.nb_model.specs.Valid.{AreInRange, IsValidBodies};
 ghost use Rattle.nb_cache.specs.InStep.{IsInStep};
 ghost use Rattle.nb_cache.specs.Writes.{RanCached};
 ghost use Rattle.nb_cache.specs.View.{seen};
-ghost use Rattle.nb_tree.specs.Builds.{IsInRange};
+ghost use Rattle.nb_tree.specs.Builds.{IsTreeInRange};
 ghost use Rattle.nb_tick.specs.Slots.{slot_file, drifted_file, sorted_file, cell_file, tick_files};
 ghost use Rattle.nb_tick.specs.State.{HoldsState};
 ghost use Rattle.nb_tick.specs.Steps.{HasTreeOf, CantSort};
@@ -105,7 +105,7 @@ fn sort_drifted<H: Host>(
     requires in_step { IsInStep H.meaning cache.old host.old }
     ensures tree { IfOk result (λ tree. IsTrue H.meaning.tells → HasTreeOf params.now count
         (seen H.meaning cache.old host.old drifted_file) (seen H.meaning cache.new host.new) tree) }
-    ensures range { IfOk result (IsInRange params.now sorted_file cell_file count) }
+    ensures range { IfOk result (IsTreeInRange params.now sorted_file cell_file count) }
     ensures damaged { (name : PageNames) → result ≡ Err (TickError.Damaged name)
         → CantSort H.meaning params.now count cache.old host.old name }
     ensures ran { RanCached H.meaning TickError.Fault (sorted_file ∷ cell_file ∷ []) cache.old host.old

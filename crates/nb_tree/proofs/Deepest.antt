@@ -72,11 +72,6 @@ sums_push a one sum xs b are is plus = record {
   length_push' : (ys : List Body) (c : Body) → length (ys ++ c ∷ []) ≡ length ys + 1
   length_push' ys c = length-append ys (c ∷ [])
 
-pub summed_none : (front : List Body) (key taken : ℕ) (sums : Sums) → sums ≡ record { count = 0; mass = 0; x = 0; y = 0; z = 0 }
-    → AreSumsTo front key taken sums
-summed_none front key taken sums is =
-    subst (AreSumsTo front key taken) (sym is) (record { are = record { count = refl; mass = refl; x = refl; y = refl; z = refl }; most = omega arith })
-
 module _ {front : List Body} (are : AreSorted front) (key taken : ℕ) (first : first_body front (in_cell 21 key front) ≡ taken) where
   deepest_key : (now : ℕ) → IsNext 21 key front now → IsKeyAt 21 key
   deepest_key now next = subst (IsKeyAt 21) next.lies (key_is 21 next.body.at (omega arith))

@@ -11,7 +11,7 @@ use Rattle.std.proofs.lemmas.List.Sorted.{IsPermutation-sym, length_permutation}
 use Rattle.nb_model.specs.declared.body.Body.{Body}
 use Rattle.nb_model.specs.declared.params.Params.{Params}
 use Rattle.nb_model.specs.Limits.{most_bodies}
-use Rattle.nb_model.specs.Leapfrog.{in_box}
+use Rattle.nb_model.specs.Leapfrog.{unescaped}
 use Rattle.nb_record.specs.declared.cell.Cell.{Cell}
 use Rattle.nb_record.specs.Order.{by_key, sorted_by, IsSortedByRank, HoldsBodies}
 use Rattle.nb_record.specs.Cells.{tree_cells}
@@ -30,14 +30,14 @@ use Rattle.nb_tree.proofs.Puts.{tree_put}
 use Rattle.nb_tree.proofs.Tops.{has_front, may_put}
 
 -- the bodies in the box of a list, and of its sorted list
-in_boxes : (list : List Body) → IsPermutation (in_box (sorted_by by_key list)) (in_box list)
-in_boxes list =
+unescaped_permuted : (list : List Body) → IsPermutation (unescaped (sorted_by by_key list)) (unescaped list)
+unescaped_permuted list =
     IsPermutation-filter (λ b. not b.out) (sorted_by by_key list) list (IsPermutation-sym list (sorted_by by_key list) (permuted by_key list))
 
 pub is_built : (params : Params) (before now : ℕ → List ℕ) (bodies cells count : ℕ) (m : Maker) (sums : Sums) (list : List Body)
     → HoldsBodies (before bodies) (sorted_by by_key list) → IsSortedByRank by_key (sorted_by by_key list) → length list ≡ count
-    → now bodies ≡ before bodies → IsBitsFor m.table.bits count → AreSums sums (in_box (sorted_by by_key list))
-    → HoldsCells (now cells) m (put_below params (in_box (sorted_by by_key list)) 21 1 ++ kid params (in_box (sorted_by by_key list)) 0 1)
+    → now bodies ≡ before bodies → IsBitsFor m.table.bits count → AreSums sums (unescaped (sorted_by by_key list))
+    → HoldsCells (now cells) m (put_below params (unescaped (sorted_by by_key list)) 21 1 ++ kid params (unescaped (sorted_by by_key list)) 0 1)
     → IsBuilt params before now (record {
       bodies = bodies;
       cells = cells;
@@ -48,10 +48,10 @@ pub is_built : (params : Params) (before now : ℕ → List ℕ) (bodies cells c
       nodes = m.nodes;
     }) list
 is_built params before now bodies cells count m sums list holds sorted long same bits are has =
-    let front = in_box (sorted_by by_key list) in
+    let front = unescaped (sorted_by by_key list) in
     let put = put_below params front 21 1 ++ kid params front 0 1 in
     let is = tree_put params front in
-    let boxes = in_boxes list in
+    let boxes = unescaped_permuted list in
     let trees : tree_cells params (sorted_by by_key list) ≡ tree_cells params list =
     same_tree params (sorted_by by_key list) list (IsPermutation-sym list (sorted_by by_key list) (permuted by_key list)) in
     record {
@@ -61,8 +61,8 @@ is_built params before now bodies cells count m sums list holds sorted long same
         bits = subst (IsBitsFor m.table.bits) (sym long) bits;
         table = subst (IsCellTable (now cells) m.table.bits m.table.pages) trees
             (same_table (now cells) m.table.bits m.table.pages put (tree_cells params (sorted_by by_key list)) is has.table);
-        count = are.count ∙ sym (length_permutation front (in_box list) boxes);
-        mass = are.mass ∙ same_mass front (in_box list) boxes;
+        count = are.count ∙ sym (length_permutation front (unescaped list) boxes);
+        mass = are.mass ∙ same_mass front (unescaped list) boxes;
         nodes = has.nodes ∙ sym (length_permutation put (tree_cells params (sorted_by by_key list)) is) ∙ ap length trees;
       };
       padded = has.padded;
@@ -70,7 +70,7 @@ is_built params before now bodies cells count m sums list holds sorted long same
 
 -- ---- what a build knows before it goes through the bodies
 
-inside_stays : (bs : List Body) → All (λ b. b.out ≡ false) bs → in_box bs ≡ bs
+inside_stays : (bs : List Body) → All (λ b. b.out ≡ false) bs → unescaped bs ≡ bs
 inside_stays [] all = refl
 inside_stays (b ∷ bs) all =
     filter_yes (λ c. not c.out) b bs (ap not (All-head (λ c. c.out ≡ false) b bs all))

@@ -9,11 +9,11 @@ use Rattle.nb_model.specs.declared.body.Body.{Body}
 use Rattle.nb_key.specs.Morton.{morton_key}
 use Rattle.nb_record.specs.Records.{body_of}
 use Rattle.nb_record.specs.Order.{by_key, precedes, record_of}
-use Rattle.nb_record.proofs.Callers.{morton_key-lt, by_key_inside}
+use Rattle.nb_record.proofs.Callers.{morton_key-lt}
 use Rattle.nb_order.specs.Files.{page_of_body, HasBody}
 use Rattle.nb_tree.specs.Fronts.{IsInOrder, IsFront}
 use Rattle.nb_tree.specs.Refusals.{IsMisplaced}
-use Rattle.nb_tree.specs.Passes.{IsAhead, Follows, inside_of, body_ahead}
+use Rattle.nb_tree.specs.Passes.{Follows, inside_of, body_ahead}
 use Rattle.nb_tree.specs.declared.reader.Ahead.{Ahead}
 
 pub same_ahead : (a b : Ahead) → Some a ≡ Some b → a ≡ b
@@ -31,25 +31,6 @@ out_follows a b inside out =
     let first : ltb (by_key a) (by_key b) ≡ true =
     subst (λ o. ltb (cond o (2 ^ 64) 0 + morton_key a.at) (by_key b) ≡ true) (sym inside) (out_rank b.out (morton_key b.at) (morton_key a.at) out (morton_key-lt a)) in
     ap (λ t. t || (eqb (by_key a) (by_key b) && ltb a.id b.id)) first
-
-first_precedes : (m n i j : ℕ) → (m < n) ⊎ ((m ≡ n) × (i < j)) → (ltb m n || (eqb m n && ltb i j)) ≡ true
-first_precedes m n i j is = grind (arith, nat_tests)
-
-first_is_before : (m n i j : ℕ) → (ltb m n || (eqb m n && ltb i j)) ≡ true → (m < n) ⊎ ((m ≡ n) × (i < j))
-first_is_before m n i j is = elim (cases_lt m n) [
-  | inl below ↦ inl below
-  | inr from ↦ inr (grind (arith, nat_tests), grind (arith, nat_tests))
-]
-
--- of two bodies in the box, the keys and ids tell which precedes the other
-pub inside_follows : (a b : Ahead) → IsAhead a → IsAhead b → a.body.out ≡ false → b.body.out ≡ false
-    → (precedes by_key a.body b.body ≡ true) ↔ ((a.key < b.key) ⊎ ((a.key ≡ b.key) × (a.body.id < b.body.id)))
-inside_follows a b is_a is_b in_a in_b =
-    let rank_a : by_key a.body ≡ a.key = by_key_inside a.body in_a ∙ sym is_a.key in
-    let rank_b : by_key b.body ≡ b.key = by_key_inside b.body in_b ∙ sym is_b.key in
-    let tests = λ (r : ℕ) (s : ℕ). ltb r s || (eqb r s && ltb a.body.id b.body.id) in
-    let same : precedes by_key a.body b.body ≡ tests a.key b.key = ap (λ r. tests r (by_key b.body)) rank_a ∙ ap (tests a.key) rank_b in
-    (λ is. first_is_before a.key b.key a.body.id b.body.id (sym same ∙ is), λ is. same ∙ first_precedes a.key b.key a.body.id b.body.id is)
 
 -- ---- reading on
 

@@ -5,7 +5,7 @@ use Rattle.std.proofs.lemmas.List.{append-nil, length-append, map-append, take-a
 use Rattle.nb_record.specs.declared.cell.Cell.{Cell}
 use Rattle.nb_cell.specs.Insertions.{HasInserted}
 use Rattle.nb_tree.specs.Passes.{HoldsCells, MayStand, Inserts, SameMaker, cell_closed, cells_closed}
-use Rattle.nb_tree.specs.declared.closed.Closed.{Closed}
+use Rattle.nb_tree.specs.declared.closed.ClosedCell.{ClosedCell}
 use Rattle.nb_tree.specs.declared.maker.Maker.{Maker}
 
 -- ---- lists
@@ -51,15 +51,6 @@ pub inserts_are : {xs ys : List Cell} {before now : List ℕ} {old new : Maker} 
     → Inserts ys before old now new
 inserts_are {before = before} {now = now} {old = old} {new = new} same one = subst (λ l. Inserts l before old now new) same one
 
--- in a file that is as it was
-pub inserts_from : {xs : List Cell} {before was now : List ℕ} {old new : Maker} → before ≡ was → Inserts xs before old now new
-    → Inserts xs was old now new
-inserts_from {xs = xs} {now = now} {old = old} {new = new} same one = subst (λ l. Inserts xs l old now new) same one
-
-pub inserts_to : {xs : List Cell} {before now is : List ℕ} {old new : Maker} → now ≡ is → Inserts xs before old now new
-    → Inserts xs before old is new
-inserts_to {xs = xs} {before = before} {old = old} {new = new} same one = subst (λ l. Inserts xs before old l new) same one
-
 pub inserted : {before now : List ℕ} {old new : Maker} (cell : Cell) → HasInserted old.table new.table cell before now → new.nodes ≡ old.nodes + 1
     → Inserts (cell ∷ []) before old now new
 inserted {now = now} {old = old} {new = new} cell has one cells holds may = record {
@@ -70,16 +61,16 @@ inserted {now = now} {old = old} {new = new} cell has one cells holds may = reco
 
 -- ---- closed cells, one after the other
 
-pub closed_more : (cs : List Closed) (i : ℕ) (d : Closed) → i < length cs
+pub closed_more : (cs : List ClosedCell) (i : ℕ) (d : ClosedCell) → i < length cs
     → cells_closed (take (i + 1) cs) ≡ cells_closed (take i cs) ++ cell_closed (get_or cs i d) ∷ []
 closed_more cs i d below =
     ap cells_closed (take_more cs i d below) ∙ map-append (λ c. cell_closed c) (take i cs) (get_or cs i d ∷ [])
 
-pub closed_ends : (cs : List Closed) (i : ℕ) → cells_closed cs ≡ cells_closed (take i cs) ++ cells_closed (drop i cs)
+pub closed_ends : (cs : List ClosedCell) (i : ℕ) → cells_closed cs ≡ cells_closed (take i cs) ++ cells_closed (drop i cs)
 closed_ends cs i = ap cells_closed (sym (take-append-drop i cs)) ∙ map-append (λ c. cell_closed c) (take i cs) (drop i cs)
 
 -- those before and this one may stand where all may
-pub may_next : (held : List Cell) (cs : List Closed) (i : ℕ) (d : Closed) → i < length cs → MayStand (held ++ cells_closed cs)
+pub may_next : (held : List Cell) (cs : List ClosedCell) (i : ℕ) (d : ClosedCell) → i < length cs → MayStand (held ++ cells_closed cs)
     → MayStand ((held ++ cells_closed (take i cs)) ++ cell_closed (get_or cs i d) ∷ [])
 may_next held cs i d below may =
     let front = closed_more cs i d below in
@@ -98,5 +89,5 @@ same_then one two = record { file = two.file ∙ one.file; bits = two.bits ∙ o
 pub may_before : (held before : List Cell) (cell : Cell) → MayStand ((held ++ before) ++ cell ∷ []) → MayStand (held ++ before)
 may_before held before cell may = may_front (held ++ before) (cell ∷ []) may
 
-pub cells_push : (cs : List Closed) (c : Closed) → cells_closed (cs ++ c ∷ []) ≡ cells_closed cs ++ cell_closed c ∷ []
+pub cells_push : (cs : List ClosedCell) (c : ClosedCell) → cells_closed (cs ++ c ∷ []) ≡ cells_closed cs ++ cell_closed c ∷ []
 cells_push cs c = map-append (λ x. cell_closed x) cs (c ∷ [])

@@ -13,8 +13,8 @@ use Rattle.nb_key.specs.Morton.{IsKeyAt}
 use Rattle.nb_key.proofs.Levels.{child_at, eight_mono}
 use Rattle.nb_record.specs.declared.cell.Cell.{Cell}
 use Rattle.nb_record.specs.Cells.{first_body, in_cell, kids_of}
-use Rattle.nb_tree.specs.Passes.{AreSums, MayStand, Inserts, HasPassed, cell_closed, finished, put_below}
-use Rattle.nb_tree.specs.declared.closed.Closed.{Closed}
+use Rattle.nb_tree.specs.Passes.{AreSums, MayStand, Inserts, HasPassed, cell_closed, tree_cell, put_below}
+use Rattle.nb_tree.specs.declared.closed.ClosedCell.{ClosedCell}
 use Rattle.nb_tree.specs.declared.maker.Maker.{Maker}
 use Rattle.nb_tree.specs.declared.sums.Sums.{Sums}
 use Rattle.nb_tree.proofs.Deepest.{IsPlus}
@@ -54,9 +54,6 @@ pub waits_more : {X : Type 0} (old now : List X) (x : X) → now ≡ old ++ drop
 waits_more old now x is =
     ap (λ l. l ++ x ∷ []) is ∙ append_assoc old (drop (length old) now) (x ∷ []) ∙ ap (λ l. old ++ l) (sym (waits_last old now x is))
 
-pub waits_cut : {X : Type 0} (old now : List X) → now ≡ old ++ drop (length old) now → take (length old) now ≡ old
-waits_cut old now is = ap (take (length old)) is ∙ take_at old (drop (length old) now) (length old) refl
-
 -- what waits behind so many, as a slice to the end
 pub rest_is : {X : Type 0} (n : ℕ) (xs ys : List X) → ys ≡ xs → take (length ys - n) (drop n ys) ≡ drop n xs
 rest_is n xs ys same =
@@ -77,10 +74,10 @@ cell_from key mass x y z first count kids = record {
   kids = kids;
 }
 
-pub closed_is : (params : Params) (all : List Body) (level key : ℕ) (c : Closed) → c.key ≡ key → AreSums c.sums (in_cell level key all)
+pub closed_is : (params : Params) (all : List Body) (level key : ℕ) (c : ClosedCell) → c.key ≡ key → AreSums c.sums (in_cell level key all)
     → first_body all (in_cell level key all) ≡ c.first
     → c.kids ≡ cond (leb (length (in_cell level key all)) params.leaf || eqb level 21) 0 (kids_of level (in_cell level key all))
-    → cell_closed c ≡ finished params all level key
+    → cell_closed c ≡ tree_cell params all level key
 closed_is params all level key c same are first kids =
     let bodies = in_cell level key all in
     ap (λ k. cell_from k c.sums.mass c.sums.x c.sums.y c.sums.z c.first c.sums.count c.kids) same
@@ -98,7 +95,7 @@ either_one false = refl
 
 -- ---- at the deepest level
 
-pub deepest_passed : (params : Params) (all : List Body) (depth key : ℕ) (file : List ℕ) (m : Maker) (c : Closed) → depth ≡ 0 → c.key ≡ key → c.kids ≡ 0
+pub deepest_passed : (params : Params) (all : List Body) (depth key : ℕ) (file : List ℕ) (m : Maker) (c : ClosedCell) → depth ≡ 0 → c.key ≡ key → c.kids ≡ 0
     → AreSums c.sums (in_cell 21 key all) → first_body all (in_cell 21 key all) ≡ c.first → HasPassed params all depth key file m file m c
 deepest_passed params all depth key file m c deep same none are first =
     subst (λ d. HasPassed params all d key file m file m c) (sym deep) (record {
@@ -175,7 +172,7 @@ module _ (params : Params) {all : List Body} (are : AreSorted all) (depth key : 
         to.read)
 
   -- the octant is closed
-  pub goes_past : {octant taken : ℕ} {sums : Sums} {kids : ℕ} {kept : List Cell} {before now after : List ℕ} {old new later : Maker} (sum : Sums) (c : Closed)
+  pub goes_past : {octant taken : ℕ} {sums : Sums} {kids : ℕ} {kept : List Cell} {before now after : List ℕ} {old new later : Maker} (sum : Sums) (c : ClosedCell)
       (then_place : ℕ) → octant < 8 → IsBegun octant taken sums kids kept before old now new
       → HasPassed params all (depth - 1) (8 * key + octant) now new after later c → IsPlus sums c.sums sum → then_place ≡ taken + c.sums.count
       → IsReadTo params all depth key then_place sum (bit_or kids ((1 * 2 ^ octant) % 256)) (kept ++ cell_closed c ∷ []) before old after later
@@ -230,7 +227,7 @@ module _ (params : Params) {all : List Body} (are : AreSorted all) (depth key : 
     pub all_sums : AreSums sums (in_cell (21 - depth) key all)
     all_sums = read_all params are (depth - 1) (21 - depth) (21 - (depth - 1)) key is up above refl taken sums kids puts kept read
 
-    pub leaf_passed : {before now : List ℕ} {old new : Maker} (c : Closed) → sums.count ≤ params.leaf → c.key ≡ key → c.sums ≡ sums → c.kids ≡ 0
+    pub leaf_passed : {before now : List ℕ} {old new : Maker} (c : ClosedCell) → sums.count ≤ params.leaf → c.key ≡ key → c.sums ≡ sums → c.kids ≡ 0
         → first_body all (in_cell (21 - depth) key all) ≡ c.first → Inserts puts before old now new → HasPassed params all depth key before old now new c
     leaf_passed c few_bodies same sums_are none first inserts =
         let few_are : length (in_cell (21 - depth) key all) ≤ params.leaf = omega (arith, all_sums.count, few_bodies) in
@@ -247,7 +244,7 @@ module _ (params : Params) {all : List Body} (are : AreSorted all) (depth key : 
         below_divided (omega (arith, all_sums.count, many)) ∙ ap (λ l. l ++ kids_at params all (21 - (depth - 1)) key 8) (sym read.below)
         ∙ ap (λ l. puts ++ l) (sym read.waits)
 
-    pub divided_passed : {before now : List ℕ} {old new : Maker} (c : Closed) → params.leaf < sums.count → c.key ≡ key → c.sums ≡ sums → c.kids ≡ kids
+    pub divided_passed : {before now : List ℕ} {old new : Maker} (c : ClosedCell) → params.leaf < sums.count → c.key ≡ key → c.sums ≡ sums → c.kids ≡ kids
         → first_body all (in_cell (21 - depth) key all) ≡ c.first → Inserts (puts ++ kept) before old now new → HasPassed params all depth key before old now new c
     divided_passed c many same sums_are kids_are first inserts =
         let many_are : params.leaf < length (in_cell (21 - depth) key all) = omega (arith, all_sums.count, many) in
@@ -287,7 +284,7 @@ module _ (params : Params) {all : List Body} (are : AreSorted all) (depth key : 
       ]
 
   -- what a closing makes, whether the cell is a leaf or not
-  pub end_passed : {taken : ℕ} {sums : Sums} {kids : ℕ} {puts kept : List Cell} {before now after : List ℕ} {old middle new : Maker} (c : Closed)
+  pub end_passed : {taken : ℕ} {sums : Sums} {kids : ℕ} {puts kept : List Cell} {before now after : List ℕ} {old middle new : Maker} (c : ClosedCell)
       → HasRead params all (depth - 1) (21 - depth) (21 - (depth - 1)) key 8 taken sums kids puts kept
       → c.key ≡ key → c.sums ≡ sums → c.kids ≡ cond (leb sums.count params.leaf) 0 kids
       → first_body all (in_cell (21 - depth) key all) ≡ c.first → Inserts puts before old now middle

@@ -14,7 +14,7 @@ use Rattle.nb_key.specs.Morton.{key_of}
 use Rattle.nb_key.proofs.Levels.{key_of_push}
 use Rattle.nb_record.specs.Cells.{in_cell, kids_of, cell_for, cells_to_depth}
 use Rattle.nb_record.proofs.Callers.{cells-nil, cells-deepest, cells-leaf, cells-divided, IsReached, reached_octant, root_reached, octants_small}
-use Rattle.nb_tree.specs.Passes.{finished, kid, put_below}
+use Rattle.nb_tree.specs.Passes.{tree_cell, kid, put_below}
 use Rattle.nb_tree.proofs.Passing.{either_one}
 use Rattle.nb_tree.proofs.Reading.{kid_none, kid_some, put_deepest, put_leaf, put_divided, put_few}
 
@@ -46,7 +46,7 @@ permuted_by {xs = xs} {ys = ys} {us = us} {vs = vs} one other is =
 
 finished_is : (params : Params) (all : List Body) (level : ℕ) (path : List ℕ) (bodies : List Body) (kids : ℕ) → bodies ≡ in_cell level (key_of path) all
     → kids ≡ cond (leb (length (in_cell level (key_of path) all)) params.leaf || eqb level 21) 0 (kids_of level (in_cell level (key_of path) all))
-    → finished params all level (key_of path) ≡ cell_for all path bodies kids
+    → tree_cell params all level (key_of path) ≡ cell_for all path bodies kids
 finished_is params all level path bodies kids held is =
     ap (λ k. cell_for all path (in_cell level (key_of path) all) k) (sym is) ∙ ap (λ l. cell_for all path l kids) (sym held)
 

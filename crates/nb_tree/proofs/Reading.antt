@@ -17,7 +17,7 @@ use Rattle.nb_key.specs.Morton.{IsKeyAt}
 use Rattle.nb_record.specs.declared.cell.Cell.{Cell}
 use Rattle.nb_record.specs.Cells.{first_body, in_cell, kids_of}
 use Rattle.nb_record.proofs.Callers.{octant_number}
-use Rattle.nb_tree.specs.Passes.{AreSums, finished, kid, put_below}
+use Rattle.nb_tree.specs.Passes.{AreSums, tree_cell, kid, put_below}
 use Rattle.nb_tree.specs.declared.sums.Sums.{Sums}
 use Rattle.nb_tree.proofs.Deepest.{IsPlus}
 use Rattle.nb_tree.proofs.Octants.{AreSorted, IsNext, over_of, over_more, over_all, over_count, empty_past, octant_is}
@@ -30,11 +30,11 @@ no_bodies (b ∷ bs) none = absurd (omega arith)
 
 pub kid_none : (params : Params) (all : List Body) (level key : ℕ) → length (in_cell level key all) ≡ 0 → kid params all level key ≡ []
 kid_none params all level key none =
-    cond-true (eqb (length (in_cell level key all)) 0) [] (finished params all level key ∷ []) (eq-eqb (length (in_cell level key all)) 0 none)
+    cond-true (eqb (length (in_cell level key all)) 0) [] (tree_cell params all level key ∷ []) (eq-eqb (length (in_cell level key all)) 0 none)
 
-pub kid_some : (params : Params) (all : List Body) (level key : ℕ) → 0 < length (in_cell level key all) → kid params all level key ≡ finished params all level key ∷ []
+pub kid_some : (params : Params) (all : List Body) (level key : ℕ) → 0 < length (in_cell level key all) → kid params all level key ≡ tree_cell params all level key ∷ []
 kid_some params all level key some =
-    cond-false (eqb (length (in_cell level key all)) 0) [] (finished params all level key ∷ []) (ne_eqb (length (in_cell level key all)) 0 (λ none. omega arith))
+    cond-false (eqb (length (in_cell level key all)) 0) [] (tree_cell params all level key ∷ []) (ne_eqb (length (in_cell level key all)) 0 (λ none. omega arith))
 
 -- the cells below a cell, by cases
 pub put_deepest : (params : Params) (all : List Body) (key : ℕ) → put_below params all zero key ≡ []
@@ -184,7 +184,7 @@ module _ (params : Params) {all : List Body} (are : AreSorted all) (depth level 
   -- an octant whose bodies were all read
   pub read_octant : (n taken later : ℕ) (sums one sum : Sums) (kids : ℕ) (puts kept : List Cell) (cell : Cell) → n < 8
       → 0 < length (in_cell next (8 * key + n) all) → Read n taken sums kids puts kept → AreSums one (in_cell next (8 * key + n) all) → IsPlus sums one sum
-      → later ≡ taken + one.count → cell ≡ finished params all next (8 * key + n)
+      → later ≡ taken + one.count → cell ≡ tree_cell params all next (8 * key + n)
       → Read (n + 1) later sum (bit_or kids ((1 * 2 ^ n) % 256)) (puts ++ put_below params all depth (8 * key + n)) (kept ++ cell ∷ [])
   read_octant n taken later sums one sum kids puts kept cell below some so_far are_one plus on is_cell =
       let bit : cond (ltb 0 (length (in_cell next (8 * key + n) all))) (2 ^ n) 0 ≡ 2 ^ n =

@@ -13,15 +13,6 @@ cell_damaged cell.Fault name is = cc
 cell_damaged cell.NoMemory name is = cc
 cell_damaged (cell.Damaged other) name is = cc
 
-pub cell_fault : (error : CellError) → of_cell error ≡ Fault → error ≡ cell.Fault
-cell_fault cell.Fault is = cc
-cell_fault cell.NoMemory is = cc
-cell_fault (cell.Damaged other) is = cc
-
 pub host_fault : (error : HostError) → of_host error ≡ Fault → error ≡ host.Fault
 host_fault host.Fault is = cc
 host_fault host.NoMemory is = cc
-
-pub host_never : (error : HostError) (name : PageName) → of_host error ≡ Damaged name → ⊥
-host_never host.Fault name is = absurd (cc)
-host_never host.NoMemory name is = absurd (cc)

@@ -9,7 +9,7 @@ use Rattle.nb_key.specs.Morton.{key_at}
 use Rattle.nb_key.proofs.Paths.{key_is}
 use Rattle.nb_record.specs.Cells.{first_body, in_cell}
 use Rattle.nb_record.proofs.Callers.{in_root, range_within}
-use Rattle.nb_tree.specs.Passes.{LiesIn, IsAt, body_ahead, put_below, kid, finished}
+use Rattle.nb_tree.specs.Passes.{LiesIn, IsAt, body_ahead, put_below, kid, tree_cell}
 use Rattle.nb_tree.specs.declared.reader.Ahead.{Ahead}
 use Rattle.nb_tree.specs.declared.reader.Reader.{Reader}
 use Rattle.nb_tree.proofs.Octants.{AreSorted, IsNext, next_holds, some_length}
@@ -59,5 +59,5 @@ root_first front are = elim (cases_lt 0 (length front)) [
   empty_first (b ∷ bs) few = absurd (omega arith)
 
 pub root_kid : (params : Params) (front : List Body) → AreSorted front → (taken : ℕ) → IsNext 0 1 front taken
-    → kid params front 0 1 ≡ finished params front 0 1 ∷ []
+    → kid params front 0 1 ≡ tree_cell params front 0 1 ∷ []
 root_kid params front are taken next = kid_some params front 0 1 (next_holds 0 1 taken front next)

@@ -13,8 +13,8 @@ use Rattle.nb_host.specs.declared.page_name.PageName.{PageName}
 use Rattle.nb_model.specs.declared.body.Body.{Body}
 use Rattle.nb_model.specs.declared.params.Params.{Params}
 use Rattle.nb_model.specs.Limits.{most_bodies}
-use Rattle.nb_model.specs.Leapfrog.{in_box}
-use Rattle.nb_model.proofs.Facts.{length-in_box-le}
+use Rattle.nb_model.specs.Leapfrog.{unescaped}
+use Rattle.nb_model.proofs.Facts.{length-unescaped-le}
 use Rattle.nb_cache.specs.View.{CacheValue, seen}
 use Rattle.nb_record.specs.declared.cell.Cell.{Cell}
 use Rattle.nb_record.specs.Records.{body_of}
@@ -55,31 +55,31 @@ module _ (file : List ℕ) (list : List Body) (holds : HoldsBodies file list) (s
         subst (λ b. precedes by_key b (body_of (record_of file (suc i))) ≡ true) one
         (subst (λ b. precedes by_key (get_or list i d) b ≡ true) (reads (suc i) d inside) (pairs_in_order by_key list sorted i d inside))
 
-  in_front : (j : ℕ) → j < length (in_box list) → slice_get (in_box list) j ≡ Some (body_of (record_of file j))
+  in_front : (j : ℕ) → j < length (unescaped list) → slice_get (unescaped list) j ≡ Some (body_of (record_of file j))
   in_front j within =
       let d = body_of (record_of file j) in
-      let few = length-in_box-le list in
-      let same : get_or (in_box list) j d ≡ d =
-      ap (λ l. get_or l j d) (sym (own_front list sorted)) ∙ get_or-take (length (in_box list)) list j d within ∙ reads j d (omega arith) in
-      slice_get-get_or (in_box list) j d within ∙ ap Some same
+      let few = length-unescaped-le list in
+      let same : get_or (unescaped list) j d ≡ d =
+      ap (λ l. get_or l j d) (sym (own_front list sorted)) ∙ get_or-take (length (unescaped list)) list j d within ∙ reads j d (omega arith) in
+      slice_get-get_or (unescaped list) j d within ∙ ap Some same
 
-  pub front_of_list : (count : ℕ) → length list ≡ count → IsFront file count (in_box list)
+  pub front_of_list : (count : ℕ) → length list ≡ count → IsFront file count (unescaped list)
   front_of_list count long =
-      let few = length-in_box-le list in
+      let few = length-unescaped-le list in
       record {
         first = record { each = λ j within. (held_first file list holds).each j (omega arith); held = in_front };
         order = λ j within. all_in_order j (omega arith);
-        inside = λ k d within. each_at (λ b. b.out ≡ false) (in_box list) (inside_box list) k d within;
+        inside = λ k d within. each_at (λ b. b.out ≡ false) (unescaped list) (inside_box list) k d within;
         most = omega arith;
         ends = λ within _.
-            let d = body_of (record_of file (length (in_box list))) in
+            let d = body_of (record_of file (length (unescaped list))) in
             let own = own_order by_key list sorted in
             let gone = escaped list 0 d
-            (let long_is = ap length own in omega (arith, length-drop (length (in_box list)) (sorted_by by_key list), long_is)) in
-            let here : get_or (drop (length (in_box list)) (sorted_by by_key list)) 0 d ≡ d =
-            get_or-drop (length (in_box list)) (sorted_by by_key list) 0 d
-            ∙ ap (λ n. get_or (sorted_by by_key list) n d) (let same : length (in_box list) + 0 ≡ length (in_box list) = omega arith in same)
-            ∙ ap (λ l. get_or l (length (in_box list)) d) (sym own) ∙ reads (length (in_box list)) d (omega arith) in
+            (let long_is = ap length own in omega (arith, length-drop (length (unescaped list)) (sorted_by by_key list), long_is)) in
+            let here : get_or (drop (length (unescaped list)) (sorted_by by_key list)) 0 d ≡ d =
+            get_or-drop (length (unescaped list)) (sorted_by by_key list) 0 d
+            ∙ ap (λ n. get_or (sorted_by by_key list) n d) (let same : length (unescaped list) + 0 ≡ length (unescaped list) = omega arith in same)
+            ∙ ap (λ l. get_or l (length (unescaped list)) d) (sym own) ∙ reads (length (unescaped list)) d (omega arith) in
             subst (λ (b : Body). b.out ≡ true) here gone;
       }
 
@@ -158,7 +158,7 @@ differing = record {
   };
 }
 
-pub may_put : (params : Params) (all : List Body) → in_box all ≡ all → length all ≤ most_bodies → MayStand (put_below params all 21 1 ++ kid params all 0 1)
+pub may_put : (params : Params) (all : List Body) → unescaped all ≡ all → length all ≤ most_bodies → MayStand (put_below params all 21 1 ++ kid params all 0 1)
 may_put params all inside few =
     let put = put_below params all 21 1 ++ kid params all 0 1 in
     let cells = cells_to_depth params all 21 [] all in
@@ -182,6 +182,6 @@ no_tree m params cache host bodies cells count name file shown = record {
     | inl misplaced ↦
         let below = misplaced.below in
         absurd (misplaced.cause (all_in_order (seen m cache host bodies) list holds sorted misplaced.index (omega arith)))
-    | inr heavy ↦ heavy.heavy (in_box list) (front_of_list (seen m cache host bodies) list holds sorted count long)
+    | inr heavy ↦ heavy.heavy (unescaped list) (front_of_list (seen m cache host bodies) list holds sorted count long)
   ];
 }

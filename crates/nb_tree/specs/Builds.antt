@@ -11,7 +11,7 @@ use Rattle.nb_record.specs.Writing.{IsZeroPaddedFile}
 
 -- What holds of a tree over every host: it names the files that were passed, and its numbers are in the ranges that a walk asks
 -- for. The range of the mass is that of a cell's record: no crate asks for it.
-pub record IsInRange (params : Params) (bodies cells count : ℕ) (tree : Tree) : Type 0 where
+pub record IsTreeInRange (params : Params) (bodies cells count : ℕ) (tree : Tree) : Type 0 where
   pub bodies_are : tree.bodies ≡ bodies
   pub cells_are : tree.cells ≡ cells
   pub bits : tree.bits ≤ 18

@@ -11,7 +11,7 @@ pub record IsInOrder (file : List ℕ) (j : ℕ) : Type 0 where
   pub has : HasBody file j
   pub after : 0 < j → precedes by_key (body_of (record_of file (j - 1))) (body_of (record_of file j)) ≡ true
 
--- These are the bodies in the box of a file of `count` bodies: its first ones, each in order and in the box. They are all,
+-- These are the unescaped bodies of a file of `count` bodies: its first ones, each in order and in the box. They are all,
 -- or the next one isn't in order or has left the box.
 pub record IsFront (file : List ℕ) (count : ℕ) (bodies : List Body) : Type 0 where
   pub first : HasFirst file bodies

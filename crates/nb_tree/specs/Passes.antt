@@ -18,7 +18,7 @@ use Rattle.nb_record.specs.Table.{IsCellTable}
 use Rattle.nb_record.specs.Writing.{IsZeroPaddedFile}
 use Rattle.nb_tree.specs.Fronts.{IsInOrder}
 use Rattle.nb_tree.specs.declared.sums.Sums.{Sums}
-use Rattle.nb_tree.specs.declared.closed.Closed.{Closed}
+use Rattle.nb_tree.specs.declared.closed.ClosedCell.{ClosedCell}
 use Rattle.nb_tree.specs.declared.reader.Ahead.{Ahead}
 use Rattle.nb_tree.specs.declared.reader.Reader.{Reader}
 use Rattle.nb_tree.specs.declared.maker.Maker.{Maker}
@@ -92,7 +92,7 @@ pub record AreSums (s : Sums) (bodies : List Body) : Type 0 where
   pub y : s.y ≡ sum_by (λ b. b.mass * b.at.y) bodies
   pub z : s.z ≡ sum_by (λ b. b.mass * b.at.z) bodies
 
-abbrev pub cell_closed : Closed → Cell
+abbrev pub cell_closed : ClosedCell → Cell
 cell_closed c = record {
   key = c.key;
   mass = c.sums.mass;
@@ -103,7 +103,7 @@ cell_closed c = record {
 }
 
 -- what holds of a closed cell over every host
-pub record IsClosed (c : Closed) : Type 0 where
+pub record IsClosed (c : ClosedCell) : Type 0 where
   pub key : IsKey c.key
   pub small : IsSmall c.sums
   pub some : 0 < c.sums.count
@@ -111,14 +111,14 @@ pub record IsClosed (c : Closed) : Type 0 where
   pub kids : c.kids < 256
   pub deepest : 8 ^ deepest_level ≤ c.key → c.kids ≡ 0
 
-abbrev pub cells_closed : List Closed → List Cell
+abbrev pub cells_closed : List ClosedCell → List Cell
 cells_closed closed = map cell_closed closed
 
 -- ---- the cells of a tree, in the order in which a pass inserts them
 
 -- the cell at this level with this key, of these bodies
-abbrev pub finished : Params → List Body → ℕ → ℕ → Cell
-finished params all level key = record {
+abbrev pub tree_cell : Params → List Body → ℕ → ℕ → Cell
+tree_cell params all level key = record {
   key = key;
   mass = total_mass (in_cell level key all);
   centre = centre_of_mass (in_cell level key all);
@@ -129,7 +129,7 @@ finished params all level key = record {
 
 -- the same as a list, which is empty where the cell has no bodies
 abbrev pub kid : Params → List Body → ℕ → ℕ → List Cell
-kid params all level key = if length (in_cell level key all) == 0 then [] else finished params all level key ∷ []
+kid params all level key = if length (in_cell level key all) == 0 then [] else tree_cell params all level key ∷ []
 
 -- The cells below the one with this key, which has so many levels below it: none below a leaf. Those below each octant come
 -- first, and then the octants themselves, since a cell waits until its parent's count is known.
@@ -179,7 +179,7 @@ Inserts more before old now new =
 
 -- What a pass through the cell with this key makes, which has so many levels below it: over the front of the file of bodies,
 -- and from the first of the cell's bodies on, it closes the cell and inserts those below it.
-pub record HasPassed (params : Params) (all : List Body) (depth key : ℕ) (before : List ℕ) (old : Maker) (now : List ℕ) (new : Maker) (closed : Closed) : Type 0 where
-  pub cell : cell_closed closed ≡ finished params all (deepest_level - depth) key
+pub record HasPassed (params : Params) (all : List Body) (depth key : ℕ) (before : List ℕ) (old : Maker) (now : List ℕ) (new : Maker) (closed : ClosedCell) : Type 0 where
+  pub cell : cell_closed closed ≡ tree_cell params all (deepest_level - depth) key
   pub sums : AreSums closed.sums (in_cell (deepest_level - depth) key all)
   pub inserts : Inserts (put_below params all depth key) before old now new

@@ -13,7 +13,7 @@ ghost use Rattle.nb_record.specs.declared.cell.Cell.{Cell as Cells};
 ghost use Rattle.nb_record.specs.Tree.{IsBitsFor};
 ghost use Rattle.nb_tree.specs.Fronts.{IsFront};
 ghost use Rattle.nb_tree.specs.Refusals.{IsMisplaced, IsNoTree};
-ghost use Rattle.nb_tree.specs.Builds.{IsInRange, Builds};
+ghost use Rattle.nb_tree.specs.Builds.{IsTreeInRange, Builds};
 ghost use Rattle.nb_tree.specs.Passes.{IsReader, IsMaker, SameMaker, IsSmall, IsAt, IsHeld, AreSums};
 ghost use Rattle.nb_tree.specs.Passes.{HoldsCells, MayStand, Inserts, put_below, kid};
 
@@ -52,8 +52,8 @@ impl Builder {
 }
 
 /// Builds the tree of the bodies of a file, of which there are `count` in Morton order, in a file of cells
-/// that is made anew. It takes each body in the box once, in order. The tree has the root, where there is a
-/// body in the box, and the octants that aren't empty of each cell that has more than `leaf` bodies and isn't
+/// that is made anew. It takes each unescaped body once, in order. The tree has the root, where there is a
+/// unescaped body, and the octants that aren't empty of each cell that has more than `leaf` bodies and isn't
 /// at the deepest level. After a refusal the file of cells may hold anything.
 pub fn build<H: Host>(
     host: &mut H,
@@ -72,7 +72,7 @@ pub fn build<H: Host>(
     requires in_step { IsInStep H.meaning cache.old host.old }
     ensures tree { IfOk result (λ tree. IsTrue H.meaning.tells
         → Builds params.now bodies count (seen H.meaning cache.old host.old) (seen H.meaning cache.new host.new) tree) }
-    ensures range { IfOk result (IsInRange params.now bodies cells count) }
+    ensures range { IfOk result (IsTreeInRange params.now bodies cells count) }
     ensures damaged { (name : PageNames) → result ≡ Err (TreeError.Damaged name)
         → IsNoTree H.meaning params.now cache.old host.old bodies cells count name }
     ensures ran { RanCached H.meaning TreeError.Fault (cells ∷ []) cache.old host.old
@@ -100,7 +100,7 @@ pub fn build<H: Host>(
     })
 }
 
-/// Goes through all bodies in the box, and inserts the cells of their tree.
+/// Goes through all unescaped bodies, and inserts the cells of their tree.
 fn root<H: Host>(
     host: &mut H,
     cache: &mut Cache,

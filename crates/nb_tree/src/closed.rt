@@ -11,7 +11,7 @@ use nb_record::Cell;
 /// A cell whose bodies were all read. Its centre isn't taken yet, since most of these cells lie under a leaf
 /// and are dropped.
 #[derive(Clone, Copy, PartialEq, Eq, Default, Debug)]
-pub(crate) struct Closed {
+pub(crate) struct ClosedCell {
     pub(crate) key: Key,
     pub(crate) sums: Sums,
     /// The number of the cell's first body in the file of bodies, counted from 0.
@@ -20,7 +20,7 @@ pub(crate) struct Closed {
     pub(crate) kids: u8,
 }
 
-impl Closed {
+impl ClosedCell {
     /// The cell, with its centre of mass.
     pub(crate) fn cell(&self) -> Cell
         requires closed { IsClosed self.now }

@@ -10,7 +10,7 @@ ghost use Rattle.nb_record.specs.declared.cell.Cell.{Cell as Cells};
 ghost use Rattle.nb_record.specs.Records.{IsCell};
 ghost use Rattle.nb_tree.specs.Passes.{IsMaker, SameMaker, HoldsCells, MayStand, Inserts, IsClosed, cells_closed};
 
-use crate::closed::Closed;
+use crate::closed::ClosedCell;
 use crate::tree_error::TreeError;
 use nb_cache::Cache;
 use nb_cell::CellTable;
@@ -72,7 +72,7 @@ impl Maker {
         &mut self,
         host: &mut H,
         cache: &mut Cache,
-        cells: &[Closed],
+        cells: &[ClosedCell],
     ) -> Result<(), TreeError>
         requires maker { IsMaker self.old }
         requires cells { All IsClosed cells.now }
@@ -102,7 +102,7 @@ impl Maker {
         &mut self,
         host: &mut H,
         cache: &mut Cache,
-        octants: &[Closed],
+        octants: &[ClosedCell],
         count: u64,
         kids: u8,
     ) -> Result<u8, TreeError>

@@ -15,7 +15,7 @@ ghost use Rattle.nb_tree.specs.Refusals.{IsMisplaced};
 ghost use Rattle.nb_tree.specs.Passes.{IsReader, IsMaker, SameMaker, IsSmall, IsClosed, LiesIn, Reads};
 ghost use Rattle.nb_tree.specs.Passes.{IsAt, IsHeld, AreSums, HoldsCells, MayStand, HasPassed, put_below};
 
-use crate::closed::Closed;
+use crate::closed::ClosedCell;
 use crate::maker::Maker;
 use crate::reader::Reader;
 use crate::sums::Sums;
@@ -27,7 +27,7 @@ use smallvec::SmallVec;
 
 /// The closed octants of the cells that are begun: they wait until their cell is closed. Eight have room
 /// without an allocation, as many as one cell has octants.
-pub(crate) type Waiting = SmallVec<Closed, 8>;
+pub(crate) type Waiting = SmallVec<ClosedCell, 8>;
 
 /// Goes through the bodies of a cell, which has so many levels below it, and inserts the cells below it that
 /// the tree has. The cell itself is closed and handed out: whether the tree has it, its parent's count tells.
@@ -40,7 +40,7 @@ pub(crate) fn pass<H: Host>(
     waiting: &mut Waiting,
     key: Key,
     depth: u32,
-) -> Result<Closed, TreeError>
+) -> Result<ClosedCell, TreeError>
     requires reader { IsReader reader.old }
     requires maker { IsMaker maker.old }
     requires apart { reader.old.file ≢ maker.old.table.file }
@@ -86,7 +86,7 @@ pub(crate) fn pass<H: Host>(
     let first = reader.taken;
     if depth == 0 {
         let sums = add_bodies(host, cache, reader, key)?;
-        return Ok(Closed {
+        return Ok(ClosedCell {
             key,
             sums,
             first,
@@ -106,7 +106,7 @@ pub(crate) fn pass<H: Host>(
     let octants = &waiting.as_slice()[from..];
     let kids = maker.put_octants(host, cache, octants, sums.count, kids)?;
     waiting.truncate(from);
-    Ok(Closed {
+    Ok(ClosedCell {
         key,
         sums,
         first,

@@ -37,8 +37,8 @@ pub(crate) struct Ahead {
     pub(crate) key: Key,
 }
 
-/// The bodies in the box of a file that has so many bodies in Morton order, with the next one read ahead.
-/// There is none behind the last body in the box.
+/// The unescaped bodies of a file that has so many bodies in Morton order, with the next one read ahead.
+/// There is none behind the last unescaped body.
 #[derive(Clone, Copy, PartialEq, Eq, Debug)]
 pub(crate) struct Reader {
     pub(crate) file: u64,
@@ -182,7 +182,7 @@ fn read<H: Host>(
     Ok(Some(Ahead { body, key }))
 }
 
-/// Whether a body in the box precedes the next one, if there is one.
+/// Whether an unescaped body precedes the next one, if there is one.
 fn follows(ahead: &Ahead, next: &Option<Ahead>) -> bool
     requires ahead { IsAhead ahead.now }
     requires inside { ahead.now.body.out ≡ false }

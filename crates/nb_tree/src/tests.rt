@@ -74,7 +74,7 @@ fn push_rows<H: Host>(
     let mut index = 0;
     for &(mass, x, y) in rows {
         if mass == 0 || x >= BOX_SIDE || y >= BOX_SIDE || index >= 4096 {
-            return Err(Fail::new("a few bodies in the box"));
+            return Err(Fail::new("a few unescaped bodies"));
         }
         let added = body(index + 1, mass, x, y);
         push_body(host, cache, file, index, &added, &AT_REST)?;

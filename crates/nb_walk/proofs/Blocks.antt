@@ -8,7 +8,7 @@ use Rattle.nb_walk.specs.declared.group.Own.{Own}
 use Rattle.nb_walk.specs.declared.item.Item.{Item}
 use Rattle.nb_walk.specs.declared.shared.SharedItem.{SharedItem}
 use Rattle.nb_walk.specs.Group.{own_items, SharesOut}
-use Rattle.nb_walk.specs.Room.{IsSmall, HasRoom}
+use Rattle.nb_walk.specs.Room.{IsItemInRange, HasRoom}
 use Rattle.nb_walk.specs.Running.{EachAt}
 use Rattle.nb_walk.specs.Shared.{in_set, is_left_to, IsShared}
 use Rattle.nb_walk.proofs.Bits.{in_none, in_above, is_below}
@@ -38,8 +38,8 @@ block_within count e shared =
 
 -- ---- an item that is shared out
 
-room_one : (x : Item) → IsSmall x → HasRoom (x ∷ [])
-room_one x small = room_push [] x (record { each = λ i y is. absurd (cc); small = All-nil IsSmall }) small (omega arith)
+room_one : (x : Item) → IsItemInRange x → HasRoom (x ∷ [])
+room_one x small = room_push [] x (record { each = λ i y is. absurd (cc); small = All-nil IsItemInRange }) small (omega arith)
 
 module _ (e : SharedItem) where
   -- the same with another set of walks
@@ -115,7 +115,7 @@ module _ (e : SharedItem) where
         }
 
     -- it takes the item for its own
-    pub out_take : (o d : Own) → in_set e.walks (i - e.block * 64) ≡ true → i < length now → IsSmall e.item → length (own_items (get_or now i d)) ≡ 0 → own_items o ≡ own_items (get_or now i d) ++ e.item ∷ []
+    pub out_take : (o d : Own) → in_set e.walks (i - e.block * 64) ≡ true → i < length now → IsItemInRange e.item → length (own_items (get_or now i d)) ≡ 0 → own_items o ≡ own_items (get_or now i d) ++ e.item ∷ []
         → SharedOut old (set now i o) (i + 1) others
     out_take o d has within small none pushed =
         let empty = empty_list (own_items (get_or now i d)) none in

@@ -5,7 +5,7 @@ use Rattle.std.proofs.lemmas.Bool.{cond-false, ne_eqb}
 use Rattle.std.proofs.lemmas.List.Elements.{All-head, All-tail}
 use Rattle.nb_model.specs.declared.body.Body.{Body}
 use Rattle.nb_model.specs.declared.params.Params.{Params}
-use Rattle.nb_model.specs.Leapfrog.{in_box}
+use Rattle.nb_model.specs.Leapfrog.{unescaped}
 use Rattle.nb_host.specs.declared.page_name.PageName.{PageName}
 use Rattle.nb_record.specs.declared.tree.Tree.{Tree}
 use Rattle.nb_record.specs.Order.{by_key}
@@ -20,7 +20,7 @@ use Rattle.nb_walk.specs.Angle.{level_of}
 use Rattle.nb_walk.specs.Terms.{Acceptance, terms_to_depth}
 use Rattle.nb_walk.specs.Items.{in_order, page_for, last_item, item_terms, remaining_terms}
 use Rattle.nb_walk.specs.Left.{IsItemOf, AreItemsOf}
-use Rattle.nb_walk.specs.Shown.{shown_for, next_item, WaitsFor, LooksAt}
+use Rattle.nb_walk.specs.Shown.{shown_for, next_item, WaitsFor, BlamesNext}
 use Rattle.nb_walk.specs.Course.{StepsAlong}
 use Rattle.nb_walk.proofs.Rooms.{last_pushed}
 use Rattle.nb_walk.proofs.Ways.{remaining-nil, remaining-cons, terms_none}
@@ -53,14 +53,14 @@ module _ (cells bodies_shown : ℕ → Option (List ℕ)) (tree : Tree) (old : L
   pub no_wait : next_item tree old ≡ None → (name : PageName) → WaitsFor cells bodies_shown tree old name → ⊥
   no_wait none name wait = let both = sym wait.next ∙ none in cc
 
-  pub looks : (front : List Item) (x : Item) (name : PageName) → tree.count ≢ 0 → old ≡ front ++ x ∷ [] → name ≡ page_for tree x → shown_for cells bodies_shown tree x ≢ None → LooksAt cells bodies_shown tree old name
+  pub looks : (front : List Item) (x : Item) (name : PageName) → tree.count ≢ 0 → old ≡ front ++ x ∷ [] → name ≡ page_for tree x → shown_for cells bodies_shown tree x ≢ None → BlamesNext cells bodies_shown tree old name
   looks front x name some is page shown = record { item = x; next = next_is front x some is; page = sym page; shown = shown }
 
 -- ---- nothing left
 
 module _ (w : Acceptance) (params : Params) (tree : Tree) (files : ℕ → List ℕ) (bodies : List Body) (of_tree : IsTreeOf tree files params bodies) where
   none_in_order : tree.count ≡ 0 → in_order bodies ≡ []
-  none_in_order none = empty_list (in_order bodies) (length-sorted_by by_key (in_box bodies) ∙ sym of_tree.count ∙ none)
+  none_in_order none = empty_list (in_order bodies) (length-sorted_by by_key (unescaped bodies) ∙ sym of_tree.count ∙ none)
 
   item_none : tree.count ≡ 0 → (x : Item) → IsItemOf params bodies tree (files tree.cells) x → item_terms w params.leaf bodies x ≡ []
   item_none none (item.Cell key page) is = ap (λ l. terms_to_depth w params.leaf (21 - level_of key) key (in_cell (level_of key) key l)) (none_in_order none) ∙ terms_none w params.leaf (21 - level_of key) key

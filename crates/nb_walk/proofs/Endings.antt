@@ -7,7 +7,7 @@ use Rattle.nb_walk.specs.declared.group.Group.{Group}
 use Rattle.nb_walk.specs.declared.group.Own.{Own}
 use Rattle.nb_walk.specs.declared.shared.SharedItem.{SharedItem}
 use Rattle.nb_walk.specs.Group.{all_shared, group_walks, own_items, IsGroup}
-use Rattle.nb_walk.specs.Room.{HasRoom, IsSmall}
+use Rattle.nb_walk.specs.Room.{HasRoom, IsItemInRange}
 use Rattle.nb_walk.specs.Shared.{items_of, IsShared}
 use Rattle.nb_walk.proofs.Joins.{room_none}
 use Rattle.nb_walk.proofs.Rounds.{none_of_none}
@@ -38,7 +38,7 @@ module _ (g from : Group) (group : IsGroup g) (items : from.items.items ≡ []) 
     owns = (let pairs = group.owns in omega arith);
     tallies = group.tallies;
     rooms = λ k d below. subst HasRoom (sym (empty k d below)) room_none;
-    small = subst (All (λ e. IsSmall e.item)) (sym emptied_shared) (All-nil (λ (e : SharedItem). IsSmall e.item));
+    small = subst (All (λ e. IsItemInRange e.item)) (sym emptied_shared) (All-nil (λ (e : SharedItem). IsItemInRange e.item));
     shared = subst (All (IsShared (length g.tallies.items))) (sym emptied_shared) (All-nil (IsShared (length g.tallies.items)));
     few = subst (λ l. length l ≤ g.room) (sym emptied_shared) (omega arith);
     items = (let room = group.items in omega arith);

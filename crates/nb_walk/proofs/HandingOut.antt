@@ -12,7 +12,7 @@ use Rattle.nb_walk.specs.declared.shared.SharedItem.{SharedItem}
 use Rattle.nb_walk.specs.Group.{IsOwnTally, walk_of, own_items, all_shared, group_walks, walks_with, IsGroup, AreTallies, TakesShared, RunsOwn, SharesOut, HandsOut, shared_bound}
 use Rattle.nb_walk.specs.Items.{last_item}
 use Rattle.nb_walk.specs.Left.{item_bound}
-use Rattle.nb_walk.specs.Room.{HasRoom, IsSmall}
+use Rattle.nb_walk.specs.Room.{HasRoom, IsItemInRange}
 use Rattle.nb_walk.specs.Running.{EachAt, Each, KeepsWalk, HasRun}
 use Rattle.nb_walk.specs.Shared.{is_left_to, items_of, IsShared}
 use Rattle.nb_walk.specs.Shown.{shown_for}
@@ -181,7 +181,7 @@ module _ (cells bodies_shown : ℕ → Option (List ℕ)) (params : Params) (tre
 
 -- the group with other owns, and more shared items that wait
 pub group_with : (old new : Group) (more : List SharedItem) → IsGroup old → new.tallies ≡ old.tallies → new.items ≡ old.items → new.room ≡ old.room → length new.owns.items ≡ length old.owns.items
-    → All (λ o. HasRoom (own_items o)) new.owns.items → new.waits.items ≡ old.waits.items ++ more → All (λ s. IsSmall s.item) more → All (IsShared (length old.tallies.items)) more
+    → All (λ o. HasRoom (own_items o)) new.owns.items → new.waits.items ≡ old.waits.items ++ more → All (λ s. IsItemInRange s.item) more → All (IsShared (length old.tallies.items)) more
     → vec_capacity old.waits ≤ vec_capacity new.waits → length (all_shared old) + length more ≤ old.room → IsGroup new
 group_with old new more group tallies items room owns rooms waits small shared capacity few =
     let long = group.owns in
@@ -194,7 +194,7 @@ group_with old new more group tallies items room owns rooms waits small shared c
       owns = owns ∙ long ∙ sym (ap (λ v. length v.items) tallies);
       tallies = subst (λ v. All IsOwnTally v.items) (sym tallies) group.tallies;
       rooms = rooms;
-      small = all_behind (λ (s : SharedItem). IsSmall s.item) old.items.items more old.waits.items new.items.items new.waits.items item_list waits group.small small;
+      small = all_behind (λ (s : SharedItem). IsItemInRange s.item) old.items.items more old.waits.items new.items.items new.waits.items item_list waits group.small small;
       shared = subst (λ v. All (IsShared (length v.items)) (all_shared new)) (sym tallies)
           (all_behind (IsShared (length old.tallies.items)) old.items.items more old.waits.items new.items.items new.waits.items item_list waits group.shared shared);
       few = omega (arith, all, room);

@@ -14,7 +14,7 @@ use Rattle.nb_walk.specs.declared.tally.Tally.{Tally}
 use Rattle.nb_walk.specs.Group.{all_shared, group_walks, own_items, walk_of, walks_from, IsGroup, IsOwnTally}
 use Rattle.nb_walk.specs.Joining.{JoinsRoot}
 use Rattle.nb_walk.specs.Items.{root_items}
-use Rattle.nb_walk.specs.Room.{HasRoom, IsSmall}
+use Rattle.nb_walk.specs.Room.{HasRoom, IsItemInRange}
 use Rattle.nb_walk.specs.Shared.{in_set, is_left_to, items_of, IsShared}
 use Rattle.nb_walk.specs.Walk.{new_walk}
 use Rattle.nb_walk.proofs.Passes.{with_items, all_among}
@@ -77,9 +77,9 @@ none_yet walk entries shared = nothing (items_of walk entries) (all_left_to (λ 
 shared_more : (walk : ℕ) (entries : List SharedItem) → All (IsShared walk) entries → All (IsShared (walk + 1)) entries
 shared_more walk entries shared = All-weaker (IsShared walk) (IsShared (walk + 1)) (λ e is. record { walk = is.walk; has = is.has; below = λ i left. (let before = is.below i left in omega arith) }) entries shared
 
-root_small : (x : Item) → x ≡ item.Cell 1 0 → IsSmall x
-root_small x is = subst IsSmall (sym is) root where
-  root : IsSmall (item.Cell 1 0)
+root_small : (x : Item) → x ≡ item.Cell 1 0 → IsItemInRange x
+root_small x is = subst IsItemInRange (sym is) root where
+  root : IsItemInRange (item.Cell 1 0)
   root = ((0, record { deepest = omega arith; least = omega arith; below = omega arith }), omega arith)
 
 module _ (walk : ℕ) (old from : Group) (group : IsGroup old) (count : walk ≡ length old.tallies.items) where
@@ -96,7 +96,7 @@ module _ (walk : ℕ) (old from : Group) (group : IsGroup old) (count : walk ≡
         room = refl;
         items = (let room = group.items in omega arith);
         few = subst (λ l. length l ≤ old.room) (sym all) group.few;
-        small = subst (All (λ e. IsSmall e.item)) (sym all) group.small;
+        small = subst (All (λ e. IsItemInRange e.item)) (sym all) group.small;
         shared = subst (All (IsShared (walk + 1))) (sym all) (shared_more walk (all_shared old) old_shared);
         others = λ i before. ap (items_of i) all;
         own = ap (items_of walk) all ∙ none_yet walk (all_shared old) old_shared;
@@ -120,7 +120,7 @@ module _ (walk : ℕ) (old from : Group) (group : IsGroup old) (count : walk ≡
         items = (let room = group.items in omega arith);
         few = subst (λ l. length (l ++ old.waits.items) ≤ old.room) (sym now)
             (omega (arith, length-append (xs ++ joined ∷ []) old.waits.items, length-append xs (joined ∷ [])));
-        small = keeps (λ e. IsSmall e.item) group.small (root_small joined.item root);
+        small = keeps (λ e. IsItemInRange e.item) group.small (root_small joined.item root);
         shared = keeps (IsShared (walk + 1)) shared is_shared;
         others = λ i before.
             ap (λ l. items_of i (l ++ old.waits.items)) now
@@ -163,7 +163,7 @@ abbrev pub HasRoot : Bool → List Item → Type 0
 HasRoot shares own = ((shares ≡ false) × (own ≡ root_items)) ⊎ ((shares ≡ true) × (own ≡ []))
 
 pub room_none : HasRoom []
-room_none = record { each = λ i x is. absurd (let below = slice_get_within [] i x is in omega arith); small = All-nil IsSmall }
+room_none = record { each = λ i x is. absurd (let below = slice_get_within [] i x is in omega arith); small = All-nil IsItemInRange }
 
 root_room : (shares : Bool) (own : List Item) → HasRoot shares own → HasRoom own
 root_room shares own (inl one) = subst HasRoom (sym one.1) (room_push [] (item.Cell 1 0) room_none (root_small (item.Cell 1 0) refl) (omega arith))

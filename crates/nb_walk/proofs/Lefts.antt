@@ -8,7 +8,7 @@ use Rattle.nb_model.specs.declared.body.Body.{Body}
 use Rattle.nb_model.specs.declared.params.Params.{Params}
 use Rattle.nb_model.specs.Octree.{in_octant}
 use Rattle.nb_model.specs.Gravity.{octants}
-use Rattle.nb_model.specs.Leapfrog.{in_box}
+use Rattle.nb_model.specs.Leapfrog.{unescaped}
 use Rattle.nb_key.specs.Morton.{IsKey}
 use Rattle.nb_record.specs.declared.cell.Cell.{Cell}
 use Rattle.nb_record.specs.declared.tree.Tree.{Tree}
@@ -18,7 +18,7 @@ use Rattle.nb_walk.specs.declared.item.Item.{Item}
 use Rattle.nb_walk.specs.declared.item.Item.TheVariants as item
 use Rattle.nb_walk.specs.Angle.{level_of}
 use Rattle.nb_walk.specs.Items.{chain_page, bodies_under}
-use Rattle.nb_walk.specs.Left.{pages_to, Weights, work_below, item_left, items_left, item_bound, step_bound}
+use Rattle.nb_walk.specs.Left.{pages_to, WorkCosts, work_below, item_work, items_work, item_bound, step_bound}
 use Rattle.nb_walk.specs.Looks.{kid_items, opened_items}
 use Rattle.nb_walk.proofs.KeyLevels.{child_level}
 use Rattle.nb_walk.proofs.Rooms.{no_kids}
@@ -95,20 +95,20 @@ module _ (f : Item → ℕ) (key kids : ℕ) where
 
 -- ---- over a tree
 
-work_deepest : (k : Weights) (file : List ℕ) (tree : Tree) (leaf : ℕ) (all : List Body) (key : ℕ) (bodies : List Body) → work_below k file tree leaf all zero key bodies ≡ k.of_leaf (first_body all bodies) (length bodies)
+work_deepest : (k : WorkCosts) (file : List ℕ) (tree : Tree) (leaf : ℕ) (all : List Body) (key : ℕ) (bodies : List Body) → work_below k file tree leaf all zero key bodies ≡ k.of_leaf (first_body all bodies) (length bodies)
 unfolding work_below
 work_deepest k file tree leaf all key bodies = refl
 
-work_leaf : (k : Weights) (file : List ℕ) (tree : Tree) (leaf : ℕ) (all : List Body) (depth key : ℕ) (bodies : List Body) → length bodies ≤ leaf → work_below k file tree leaf all depth key bodies ≡ k.of_leaf (first_body all bodies) (length bodies)
+work_leaf : (k : WorkCosts) (file : List ℕ) (tree : Tree) (leaf : ℕ) (all : List Body) (depth key : ℕ) (bodies : List Body) → length bodies ≤ leaf → work_below k file tree leaf all depth key bodies ≡ k.of_leaf (first_body all bodies) (length bodies)
 unfolding work_below
 work_leaf k file tree leaf all zero key bodies few = refl
 work_leaf k file tree leaf all (suc depth) key bodies few = cond-true (leb (length bodies) leaf) (k.of_leaf (first_body all bodies) (length bodies)) _ (le-leb (length bodies) leaf few)
 
 -- what a part of a cell weighs
-part_work : Weights → List ℕ → Tree → ℕ → List Body → ℕ → ℕ → List Body → ℕ
+part_work : WorkCosts → List ℕ → Tree → ℕ → List Body → ℕ → ℕ → List Body → ℕ
 part_work k file tree leaf all depth key part = cond (ltb 0 (length part)) (pages_to file tree key (key % 2 ^ tree.bits) + work_below k file tree leaf all depth key part) 0
 
-work_parts : (k : Weights) (file : List ℕ) (tree : Tree) (leaf : ℕ) (all : List Body) (depth key : ℕ) (bodies : List Body) → leaf < length bodies
+work_parts : (k : WorkCosts) (file : List ℕ) (tree : Tree) (leaf : ℕ) (all : List Body) (depth key : ℕ) (bodies : List Body) → leaf < length bodies
     → work_below k file tree leaf all (suc depth) key bodies ≡ sum_by (λ octant. part_work k file tree leaf all depth (8 * key + octant) (in_octant (21 - 1 - depth) bodies octant)) octants
 unfolding work_below part_work
 work_parts k file tree leaf all depth key bodies many = cond-false (leb (length bodies) leaf) (k.of_leaf (first_body all bodies) (length bodies)) _ (lt-leb (length bodies) leaf many)
@@ -117,34 +117,34 @@ some_length : (bs : List Body) → bs ≢ [] → 0 < length bs
 some_length [] some = absurd (some refl)
 some_length (b ∷ bs) some = omega arith
 
-module _ (k : Weights) (file : List ℕ) (tree : Tree) (params : Params) (bodies : List Body) where
+module _ (k : WorkCosts) (file : List ℕ) (tree : Tree) (params : Params) (bodies : List Body) where
   abbrev left_of : Item → ℕ
-  left_of x = item_left k file tree params.leaf bodies x
+  left_of x = item_work k file tree params.leaf bodies x
 
   pub work : ℕ → ℕ
-  work key = work_below k file tree params.leaf (in_box bodies) (21 - level_of key) key (bodies_under key (in_box bodies))
+  work key = work_below k file tree params.leaf (unescaped bodies) (21 - level_of key) key (bodies_under key (unescaped bodies))
 
-  pub left_cell : (key page : ℕ) → bodies_under key (in_box bodies) ≢ [] → left_of (item.Cell key page) ≡ pages_to file tree key (chain_page tree.bits key page) + work key
+  pub left_cell : (key page : ℕ) → bodies_under key (unescaped bodies) ≢ [] → left_of (item.Cell key page) ≡ pages_to file tree key (chain_page tree.bits key page) + work key
   unfolding work
   left_cell key page some =
-      let own = bodies_under key (in_box bodies) in
-      cond-true (ltb 0 (length own)) (pages_to file tree key (chain_page tree.bits key page) + work_below k file tree params.leaf (in_box bodies) (21 - level_of key) key own) 0 (lt-ltb 0 (length own) (some_length own some))
+      let own = bodies_under key (unescaped bodies) in
+      cond-true (ltb 0 (length own)) (pages_to file tree key (chain_page tree.bits key page) + work_below k file tree params.leaf (unescaped bodies) (21 - level_of key) key own) 0 (lt-ltb 0 (length own) (some_length own some))
 
   -- the next page of a chain
-  pub left_next : (key page next : ℕ) → bodies_under key (in_box bodies) ≢ [] → pages_to file tree key (chain_page tree.bits key page) ≡ suc (pages_to file tree key (chain_page tree.bits key next))
+  pub left_next : (key page next : ℕ) → bodies_under key (unescaped bodies) ≢ [] → pages_to file tree key (chain_page tree.bits key page) ≡ suc (pages_to file tree key (chain_page tree.bits key next))
       → left_of (item.Cell key next) < left_of (item.Cell key page)
   left_next key page next some is = omega (arith, left_cell key page some, left_cell key next some, is)
 
   -- a cell that is taken whole
-  pub left_accepted : (key page : ℕ) → bodies_under key (in_box bodies) ≢ [] → pages_to file tree key (chain_page tree.bits key page) ≡ 1 → 0 < left_of (item.Cell key page)
+  pub left_accepted : (key page : ℕ) → bodies_under key (unescaped bodies) ≢ [] → pages_to file tree key (chain_page tree.bits key page) ≡ 1 → 0 < left_of (item.Cell key page)
   left_accepted key page some is = omega (arith, left_cell key page some, is)
 
   -- a kid of a cell weighs what its part does
-  kid_work : (level : ℕ) (cell : Cell) (octant : ℕ) → IsTreeCell params (in_box bodies) level cell → level ≡ level_of cell.key → octant < 8 → level < 21 → cell.kids ≢ 0
-      → kid_sum left_of cell.key cell.kids octant ≡ part_work k file tree params.leaf (in_box bodies) (20 - level) (8 * cell.key + octant) (in_octant level (in_cell level cell.key (in_box bodies)) octant)
+  kid_work : (level : ℕ) (cell : Cell) (octant : ℕ) → IsTreeCell params (unescaped bodies) level cell → level ≡ level_of cell.key → octant < 8 → level < 21 → cell.kids ≢ 0
+      → kid_sum left_of cell.key cell.kids octant ≡ part_work k file tree params.leaf (unescaped bodies) (20 - level) (8 * cell.key + octant) (in_octant level (in_cell level cell.key (unescaped bodies)) octant)
   unfolding part_work
   kid_work level cell octant is its below above some =
-      let all = in_box bodies in
+      let all = unescaped bodies in
       let key = 8 * cell.key + octant in
       let part = octant_of_cell level cell.key octant all below in
       let weight = λ (d : ℕ) (bs : List Body). cond (ltb 0 (length bs)) (pages_to file tree key (key % 2 ^ tree.bits) + work_below k file tree params.leaf all d key bs) 0 in
@@ -164,11 +164,11 @@ module _ (k : Weights) (file : List ℕ) (tree : Tree) (params : Params) (bodies
       ]
 
   -- the items in the place of an opened cell
-  pub left_opened : (cell : Cell) (page : ℕ) → IsTreeCell params (in_box bodies) (level_of cell.key) cell → ((from count : ℕ) → k.of_bodies from count ≤ k.of_leaf from count)
-      → pages_to file tree cell.key (chain_page tree.bits cell.key page) ≡ 1 → items_left k file tree params.leaf bodies (opened_items cell) < left_of (item.Cell cell.key page)
+  pub left_opened : (cell : Cell) (page : ℕ) → IsTreeCell params (unescaped bodies) (level_of cell.key) cell → ((from count : ℕ) → k.of_bodies from count ≤ k.of_leaf from count)
+      → pages_to file tree cell.key (chain_page tree.bits cell.key page) ≡ 1 → items_work k file tree params.leaf bodies (opened_items cell) < left_of (item.Cell cell.key page)
   unfolding work
   left_opened cell page is lighter one =
-      let all = in_box bodies in
+      let all = unescaped bodies in
       let level = level_of cell.key in
       let own = bodies_under cell.key all in
       let whole = left_cell cell.key page is.some in
@@ -199,8 +199,8 @@ module _ (k : Weights) (file : List ℕ) (tree : Tree) (params : Params) (bodies
       ]
 
   -- among other items
-  pub left_among : (xs more : List Item) (x : Item) → items_left k file tree params.leaf bodies more < left_of x
-      → items_left k file tree params.leaf bodies (xs ++ more) < items_left k file tree params.leaf bodies (xs ++ x ∷ [])
+  pub left_among : (xs more : List Item) (x : Item) → items_work k file tree params.leaf bodies more < left_of x
+      → items_work k file tree params.leaf bodies (xs ++ more) < items_work k file tree params.leaf bodies (xs ++ x ∷ [])
   left_among xs more x less =
       let new = sum_by-append left_of xs more in
       let old = sum_by-append left_of xs (x ∷ []) in

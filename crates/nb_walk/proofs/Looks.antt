@@ -8,15 +8,15 @@ use Rattle.nb_record.specs.declared.header.PageError.{PageError}
 use Rattle.nb_record.specs.declared.header.PageError.TheVariants as error
 use Rattle.nb_record.specs.declared.sizes.TheConstants.{BODIES_PER_PAGE, CELLS_PER_PAGE}
 use Rattle.nb_record.specs.declared.tree.Tree.{Tree}
-use Rattle.nb_record.specs.Fields.{word}
+use Rattle.nb_record.specs.Fields.{u64_at}
 use Rattle.nb_record.specs.Looking.{index_of_key, IsLook, IsLookAt, IsLookOn}
 use Rattle.nb_record.specs.Pages.{page_next, read_cell_page}
 use Rattle.nb_record.specs.Records.{cell_record, cell_of}
 use Rattle.nb_walk.specs.declared.item.Item.{Item}
 use Rattle.nb_walk.specs.declared.item.Item.TheVariants as item
 use Rattle.nb_walk.specs.Items.{chain_page}
-use Rattle.nb_walk.specs.Looks.{opened_items, later_bodies, next_bodies, CellLeaves, IsOneLook}
-use Rattle.nb_walk.specs.Sight.{HasCell, HasNext}
+use Rattle.nb_walk.specs.Looks.{opened_items, later_bodies, next_bodies, IsRestOfCell, IsOneLook}
+use Rattle.nb_walk.specs.Sight.{HasCell, HasNextPage}
 
 -- ---- what a look finds
 
@@ -28,7 +28,7 @@ ok_same false false false true bytes other is = absurd (cc)
 ok_same false false false false bytes other is = cc
 
 read_same : (page : ℕ) (bytes other : List ℕ) → read_cell_page page bytes ≡ Ok other → bytes ≡ other
-read_same page bytes other is = ok_same (not (eqb (word 0 bytes) page)) (not (leb (word 8 bytes) CELLS_PER_PAGE)) (not (eqb (word 16 bytes) 0 || ltb page (word 16 bytes))) (not (eqb (word 24 bytes) 0)) bytes other is
+read_same page bytes other is = ok_same (not (eqb (u64_at 0 bytes) page)) (not (leb (u64_at 8 bytes) CELLS_PER_PAGE)) (not (eqb (u64_at 16 bytes) 0 || ltb page (u64_at 16 bytes))) (not (eqb (u64_at 24 bytes) 0)) bytes other is
 
 not_found : (t : Bool) (next : ℕ) (cell : Cell) → cond t look.Gone (look.Next next) ≡ look.Found cell → ⊥
 not_found true next cell is = cc
@@ -58,10 +58,10 @@ has_cell key page (Some bytes) answer cell is e = on_read (read_cell_page page b
   on_read (Err why) read answers = absurd (let both = sym answers ∙ e in cc)
   on_read (Ok other) read answers = on_index other (read_same page bytes other read) (index_of_key key other) refl answers
 
-pub has_next : (key page : ℕ) (shown : Option (List ℕ)) (answer : Look) (next : ℕ) → IsLook key page shown answer → answer ≡ look.Next next → HasNext shown key next
+pub has_next : (key page : ℕ) (shown : Option (List ℕ)) (answer : Look) (next : ℕ) → IsLook key page shown answer → answer ≡ look.Next next → HasNextPage shown key next
 has_next key page None answer next is e = absurd (let both = sym is ∙ e in cc)
 has_next key page (Some bytes) answer next is e = on_read (read_cell_page page bytes) refl is where
-  on_index : (other : List ℕ) → bytes ≡ other → (at : Option ℕ) → index_of_key key other ≡ at → IsLookOn page other at answer → HasNext (Some bytes) key next
+  on_index : (other : List ℕ) → bytes ≡ other → (at : Option ℕ) → index_of_key key other ≡ at → IsLookOn page other at answer → HasNextPage (Some bytes) key next
   on_index other same (Some i) there (inl found) = absurd (let both = sym found.1 ∙ e in cc)
   on_index other same (Some i) there (inr bad) = absurd (let both = sym bad.1 ∙ e in cc)
   on_index other same None there answers = record {
@@ -71,7 +71,7 @@ has_next key page (Some bytes) answer next is e = on_read (read_cell_page page b
     next_is = subst (λ b. page_next b ≡ next) (sym same) (was_next (eqb (page_next other) 0) (page_next other) next (sym answers ∙ e));
   }
 
-  on_read : (read : Result (List ℕ) PageError) → read_cell_page page bytes ≡ read → IsLookAt key page read answer → HasNext (Some bytes) key next
+  on_read : (read : Result (List ℕ) PageError) → read_cell_page page bytes ≡ read → IsLookAt key page read answer → HasNextPage (Some bytes) key next
   on_read (Err why) read answers = absurd (let both = sym answers ∙ e in cc)
   on_read (Ok other) read answers = on_index other (read_same page bytes other read) (index_of_key key other) refl answers
 
@@ -108,7 +108,7 @@ module _ (of_bodies : ℕ → ℕ → List Item) (cells bodies_shown : ℕ → O
       shown = has.is;
       more = opened_items cell;
       left = left;
-      leaves = subst (λ at. CellLeaves key has.bytes at (opened_items cell)) (sym has.found) (inr (ap opened_items (sym has.cell_is)));
+      leaves = subst (λ at. IsRestOfCell key has.bytes at (opened_items cell)) (sym has.found) (inr (ap opened_items (sym has.cell_is)));
     }
 
     pub look_accepted : (cell : Cell) → HasCell (cells (chain_page tree.bits key page)) key cell → new ≡ front → LooksAtCell
@@ -120,10 +120,10 @@ module _ (of_bodies : ℕ → ℕ → List Item) (cells bodies_shown : ℕ → O
       shown = has.is;
       more = [];
       left = left ∙ sym (append-nil front);
-      leaves = subst (λ at. CellLeaves key has.bytes at []) (sym has.found) (inl refl);
+      leaves = subst (λ at. IsRestOfCell key has.bytes at []) (sym has.found) (inl refl);
     }
 
-    pub look_passed : (next : ℕ) → HasNext (cells (chain_page tree.bits key page)) key next → new ≡ front ++ item.Cell key next ∷ [] → LooksAtCell
+    pub look_passed : (next : ℕ) → HasNextPage (cells (chain_page tree.bits key page)) key next → new ≡ front ++ item.Cell key next ∷ [] → LooksAtCell
     look_passed next has left = record {
       front = front;
       item = item.Cell key page;
@@ -132,7 +132,7 @@ module _ (of_bodies : ℕ → ℕ → List Item) (cells bodies_shown : ℕ → O
       shown = has.is;
       more = item.Cell key next ∷ [];
       left = left;
-      leaves = subst (λ at. CellLeaves key has.bytes at (item.Cell key next ∷ [])) (sym has.lacks) (ap (λ n. item.Cell key n ∷ []) (sym has.next_is));
+      leaves = subst (λ at. IsRestOfCell key has.bytes at (item.Cell key next ∷ [])) (sym has.lacks) (ap (λ n. item.Cell key n ∷ []) (sym has.next_is));
     }
 
   pub look_bodies : (front new more : List Item) (from count : ℕ) (bytes : List ℕ) → bodies_shown (from / BODIES_PER_PAGE) ≡ Some bytes → new ≡ front ++ more → more ≡ of_bodies from count

@@ -8,7 +8,7 @@ use Rattle.nb_model.specs.declared.body.At.{At}
 use Rattle.nb_model.specs.declared.body.Body.{Body}
 use Rattle.nb_model.specs.declared.params.Params.{Params}
 use Rattle.nb_model.specs.Gravity.{force_on}
-use Rattle.nb_model.specs.Leapfrog.{in_box}
+use Rattle.nb_model.specs.Leapfrog.{unescaped}
 use Rattle.nb_model.specs.Octree.{total_mass}
 use Rattle.nb_model.specs.Vector.{zero_vector, plus}
 use Rattle.nb_host.specs.declared.page_name.PageName.{PageName}
@@ -22,15 +22,15 @@ use Rattle.nb_walk.specs.Items.{root_items, page_for, item_force, item_mass, rem
 use Rattle.nb_walk.specs.Left.{IsItemOf}
 use Rattle.nb_walk.specs.Page.{IsShown}
 use Rattle.nb_walk.specs.Shown.{shown_for}
-use Rattle.nb_walk.specs.Walk.{WalkValue, new_walk, IsInRange, IsWithin, IsWalkOn}
-use Rattle.nb_walk.specs.Pool.{PooledWalk, unasked, all_unasked, with_walk, sums, AreInRange, AreWithin, AreOn, AreFinished, SomeWaits, IsWanted, CanGoOn, Called, HaveForces, targets}
+use Rattle.nb_walk.specs.Walk.{WalkValue, new_walk, IsSumInRange, IsWithin, IsWalkOn}
+use Rattle.nb_walk.specs.Pool.{PooledWalk, unasked, all_unasked, with_walk, sums, AreSumsInRange, AreWithin, AreOn, AreFinished, SomeWaits, IsWanted, CanGoOn, Called, HaveForces, targets}
 use Rattle.nb_walk.specs.Pool.Called.{New, Begun, Advanced}
 use Rattle.nb_walk.proofs.KeyLevels.{root_level}
 use Rattle.nb_walk.proofs.TreeItems.{root_is_item}
 
 pub walk_begun : (params : Params) (bodies : List Body) (tree : Tree) (files : ℕ → List ℕ) (p : At) → IsTreeOf tree files params bodies → IsWalkOn params bodies tree (files tree.cells) (new_walk p)
 walk_begun params bodies tree files p of_tree =
-    let all = in_box bodies in
+    let all = unescaped bodies in
     let root = item.Cell 1 0 in
     let force : item_force params bodies p root ≡ force_on params p 0 all = ap (λ l. force_on params p l (in_cell l 1 all)) root_level ∙ ap (force_on params p 0) (in_root all) in
     let mass : item_mass bodies root ≡ total_mass all = ap (λ l. total_mass (in_cell l 1 all)) root_level ∙ ap total_mass (in_root all) in
@@ -47,7 +47,7 @@ walk_begun params bodies tree files p of_tree =
       items = All-cons (IsItemOf params bodies tree (files tree.cells)) root [] (root_is_item params bodies tree (files tree.cells) of_tree.table) (All-nil (IsItemOf params bodies tree (files tree.cells)));
     }
 
-pub walk_finished : (params : Params) (bodies : List Body) (tree : Tree) (file : List ℕ) (w : WalkValue) → IsWalkOn params bodies tree file w → w.items ≡ [] → w.sum ≡ force_on params w.target 0 (in_box bodies)
+pub walk_finished : (params : Params) (bodies : List Body) (tree : Tree) (file : List ℕ) (w : WalkValue) → IsWalkOn params bodies tree file w → w.items ≡ [] → w.sum ≡ force_on params w.target 0 (unescaped bodies)
 walk_finished params bodies tree file w on none =
     sym (plus-zero w.sum) ∙ ap (plus w.sum) (sym (ap (remaining_force params bodies w.target) none)) ∙ on.sum
 
@@ -61,9 +61,9 @@ all_begun params bodies tree files p walks of_tree on =
     let P = λ (w : WalkValue). IsWalkOn params bodies tree (files tree.cells) w in
     All-push (λ w. P w.walk) (all_unasked walks) (unasked (new_walk p)) (still_all P walks on) (walk_begun params bodies tree files p of_tree)
 
-pub begun_range : (params : Params) (p : At) (walks : List PooledWalk) → AreInRange params walks → AreInRange params (with_walk p walks)
+pub begun_range : (params : Params) (p : At) (walks : List PooledWalk) → AreSumsInRange params walks → AreSumsInRange params (with_walk p walks)
 begun_range params p walks range =
-    All-push (λ w. IsInRange params w.walk) (all_unasked walks) (unasked (new_walk p)) (still_all (IsInRange params) walks range) (record { x = omega arith; y = omega arith; z = omega arith })
+    All-push (λ w. IsSumInRange params w.walk) (all_unasked walks) (unasked (new_walk p)) (still_all (IsSumInRange params) walks range) (record { x = omega arith; y = omega arith; z = omega arith })
 
 pub begun_within : (most : ℕ) (p : At) (walks : List PooledWalk) → AreWithin most walks → AreWithin most (with_walk p walks)
 begun_within most p walks within =
@@ -73,8 +73,8 @@ begun_within most p walks within =
 pub none_within : (most : ℕ) → AreWithin most []
 none_within most = All-nil (λ w. IsWithin most w.walk)
 
-pub none_in_range : (params : Params) → AreInRange params []
-none_in_range params = All-nil (λ w. IsInRange params w.walk)
+pub none_in_range : (params : Params) → AreSumsInRange params []
+none_in_range params = All-nil (λ w. IsSumInRange params w.walk)
 
 pub none_on : (params : Params) (bodies : List Body) (tree : Tree) (file : List ℕ) → AreOn params bodies tree file []
 none_on params bodies tree file = All-nil (λ w. IsWalkOn params bodies tree file w.walk)
@@ -97,7 +97,7 @@ all_finished params bodies tree file [] on done = refl
 all_finished params bodies tree file (w ∷ ws) on done =
     let here = walk_finished params bodies tree file w.walk (All-head (λ v. IsWalkOn params bodies tree file v.walk) w ws on) (All-head (λ v. v.walk.items ≡ []) w ws done) in
     let rest = all_finished params bodies tree file ws (All-tail (λ v. IsWalkOn params bodies tree file v.walk) w ws on) (All-tail (λ v. v.walk.items ≡ []) w ws done) in
-    ap (λ s. s ∷ sums ws) here ∙ ap (λ l. force_on params w.walk.target 0 (in_box bodies) ∷ l) rest
+    ap (λ s. s ∷ sums ws) here ∙ ap (λ l. force_on params w.walk.target 0 (unescaped bodies) ∷ l) rest
 
 called_on : (params : Params) (bodies : List Body) (tree : Tree) (files : ℕ → List ℕ) → IsTreeOf tree files params bodies → (walks : List PooledWalk) → Called params bodies tree files walks → AreOn params bodies tree (files tree.cells) walks
 called_on params bodies tree files of_tree walks New = none_on params bodies tree (files tree.cells)

@@ -28,7 +28,7 @@ use Rattle.nb_walk.specs.Left.{AreItemsOf, item_bound, step_bound}
 use Rattle.nb_walk.specs.Looks.{opened_items}
 use Rattle.nb_walk.specs.Part.{IsTally, KeepsTally, TakesPart}
 use Rattle.nb_walk.specs.Pool.{BlamesOne}
-use Rattle.nb_walk.specs.Room.{IsSmall, HasRoom}
+use Rattle.nb_walk.specs.Room.{IsItemInRange, HasRoom}
 use Rattle.nb_walk.specs.Running.{KeepsWalk, Each, EachAt}
 use Rattle.nb_walk.specs.Shared.{is_left_to, items_of, shared_by, IsShared}
 use Rattle.nb_walk.specs.Shown.{shown_for}
@@ -98,7 +98,7 @@ record IsNext (params : Params) (old new : Group) : Type 0 where
   owns : new.owns.items ≡ old.owns.items
   tallies : AreTallies params new
   room : new.room ≡ old.room
-  small : All (λ s. IsSmall s.item) (all_shared new)
+  small : All (λ s. IsItemInRange s.item) (all_shared new)
   shared : All (IsShared (length old.tallies.items)) (all_shared new)
   few : length (all_shared new) ≤ old.room
   items : vec_capacity old.items ≤ vec_capacity new.items
@@ -176,7 +176,7 @@ module _ (params : Params) (tree : Tree) where
           let there : i < length old.tallies.items = subst (λ m. i < m) met.count below in
           kept_tally params tree.mass (get_or old.tallies.items i d) (get_or new.tallies.items i d) (tallies i d there) (met.kept i d there)
 
-      pub met_group : (pushed : List SharedItem) (new : Group) → IsMet old pushed new → All (λ s. IsSmall s.item) pushed → All (IsShared (length old.tallies.items)) pushed → length pushed ≤ 8 → IsGroup new
+      pub met_group : (pushed : List SharedItem) (new : Group) → IsMet old pushed new → All (λ s. IsItemInRange s.item) pushed → All (IsShared (length old.tallies.items)) pushed → length pushed ≤ 8 → IsGroup new
       met_group pushed new met small shared few =
           let waits = ap (λ v. v.items) met.waits in
           group_next params old new group (record {
@@ -184,21 +184,21 @@ module _ (params : Params) (tree : Tree) where
             owns = ap (λ v. v.items) met.owns;
             tallies = met_tallies pushed new met;
             room = met.room;
-            small = all_among (λ s. IsSmall s.item) old.items.items pushed old.waits.items new.items.items new.waits.items met.items waits group.small small;
+            small = all_among (λ s. IsItemInRange s.item) old.items.items pushed old.waits.items new.items.items new.waits.items met.items waits group.small small;
             shared = all_among (IsShared (length old.tallies.items)) old.items.items pushed old.waits.items new.items.items new.waits.items met.items waits group.shared shared;
             few = omega (arith, space, few, length-append new.items.items new.waits.items, length-append old.items.items old.waits.items, length-append old.items.items pushed, ap length met.items, ap length waits);
             items = met.capacity;
             waits = omega (arith, ap (λ v. vec_capacity v) met.waits);
           })
 
-      pub group_wait : (e : SharedItem) (waits : Vec SharedItem) → IsSmall e.item → IsShared (length old.tallies.items) e → waits.items ≡ old.waits.items ++ e ∷ [] → vec_capacity old.waits ≤ vec_capacity waits → IsGroup (with_waits old waits)
+      pub group_wait : (e : SharedItem) (waits : Vec SharedItem) → IsItemInRange e.item → IsShared (length old.tallies.items) e → waits.items ≡ old.waits.items ++ e ∷ [] → vec_capacity old.waits ≤ vec_capacity waits → IsGroup (with_waits old waits)
       group_wait e waits small shared is more =
           group_next params old (with_waits old waits) group (record {
             count = refl;
             owns = refl;
             tallies = tallies;
             room = refl;
-            small = all_behind (λ s. IsSmall s.item) old.items.items (e ∷ []) old.waits.items old.items.items waits.items refl is group.small (all_one (λ s. IsSmall s.item) e small);
+            small = all_behind (λ s. IsItemInRange s.item) old.items.items (e ∷ []) old.waits.items old.items.items waits.items refl is group.small (all_one (λ s. IsItemInRange s.item) e small);
             shared = all_behind (IsShared (length old.tallies.items)) old.items.items (e ∷ []) old.waits.items old.items.items waits.items refl is group.shared (all_one (IsShared (length old.tallies.items)) e shared);
             few = omega (arith, space, length-append old.items.items waits.items, length-append old.items.items old.waits.items, length-append old.waits.items (e ∷ []), ap length is);
             items = omega arith;

@@ -17,10 +17,10 @@ use Rattle.nb_walk.specs.Items.{last_item}
 use Rattle.nb_walk.specs.Left.{step_bound}
 use Rattle.nb_walk.specs.Part.{IsTally, KeepsTally, TakesPart, OnPart}
 use Rattle.nb_walk.specs.Pool.{BlamesOne}
-use Rattle.nb_walk.specs.Room.{HasRoom, IsSmall}
+use Rattle.nb_walk.specs.Room.{HasRoom, IsItemInRange}
 use Rattle.nb_walk.specs.Running.{KeepsWalk, HasRun, Each}
 use Rattle.nb_walk.specs.Shared.{items_of, IsShared}
-use Rattle.nb_walk.specs.Shown.{Shows, LooksAt}
+use Rattle.nb_walk.specs.Shown.{Shows, BlamesNext}
 use Rattle.nb_walk.specs.Walk.{WalkValue, CanVisit, IsWalkOn}
 use Rattle.nb_walk.proofs.Meetings.{keeps_then, keeps_same, kept_tally}
 use Rattle.nb_walk.proofs.Parts.{kept_own, run_own, own_fits}
@@ -92,7 +92,7 @@ module _ (params : Params) (tree : Tree) where
           owns = omega (arith, set_count, set_owns);
           tallies = λ k d below. let t = set_tallies k d below in record { target = t.target; key = t.key };
           rooms = subst (All (λ p. HasRoom (own_items p))) (sym is.owns) (All-set (λ p. HasRoom (own_items p)) now.owns.items i o room group.rooms);
-          small = subst (All (λ e. IsSmall e.item)) (sym set_shared) group.small;
+          small = subst (All (λ e. IsItemInRange e.item)) (sym set_shared) group.small;
           shared = subst (λ n. All (IsShared n) (all_shared new)) (sym set_count) (subst (All (IsShared (length now.tallies.items))) (sym set_shared) group.shared);
           few = omega arith;
           items = subst (λ v. new.room ≤ vec_capacity v) (sym is.items) (omega arith);
@@ -249,7 +249,7 @@ module _ (cells bodies_shown : ℕ → Option (List ℕ)) (params : Params) (tre
 
   -- ---- a page that isn't the tree's
 
-  pub own_blames : (g : Group) (i : ℕ) (name : PageName) → IsGroup g → i < length g.tallies.items → tree.count ≢ 0 → ((o : Own) → LooksAt cells bodies_shown tree (own_items (get_or g.owns.items i o)) name) → BlamesOne cells bodies_shown tree (group_walks g) name
+  pub own_blames : (g : Group) (i : ℕ) (name : PageName) → IsGroup g → i < length g.tallies.items → tree.count ≢ 0 → ((o : Own) → BlamesNext cells bodies_shown tree (own_items (get_or g.owns.items i o)) name) → BlamesOne cells bodies_shown tree (group_walks g) name
   own_blames g i name group below some looks =
       let owns = g.owns.items in
       let shared = items_of i (all_shared g) in

@@ -10,7 +10,7 @@ use Rattle.nb_model.specs.declared.body.V3.{V3}
 use Rattle.nb_model.specs.declared.body.Body.{Body}
 use Rattle.nb_model.specs.declared.params.Params.{Params}
 use Rattle.nb_model.specs.Gravity.{force_on}
-use Rattle.nb_model.specs.Leapfrog.{in_box}
+use Rattle.nb_model.specs.Leapfrog.{unescaped}
 use Rattle.nb_model.specs.Valid.{IsInBox}
 use Rattle.nb_model.specs.Vector.{plus, vector_sum}
 use Rattle.nb_record.specs.declared.tree.Tree.{Tree}
@@ -21,12 +21,12 @@ use Rattle.nb_walk.specs.declared.tally.Tally.{Tally}
 use Rattle.nb_walk.specs.declared.term.Term.{Term}
 use Rattle.nb_walk.specs.Group.{walk_of}
 use Rattle.nb_walk.specs.Items.{item_force, remaining_force, item_mass, remaining_mass, remaining_terms}
-use Rattle.nb_walk.specs.Left.{IsItemOf, AreItemsOf, Weights, item_left, pages_of, item_bound, step_bound}
+use Rattle.nb_walk.specs.Left.{IsItemOf, AreItemsOf, WorkCosts, item_work, pages_spanned, item_bound, step_bound}
 use Rattle.nb_walk.specs.Part.{IsTally, KeepsTally, TakesTerms, TakesPart}
 use Rattle.nb_walk.specs.Running.{KeepsWalk, HasRun}
 use Rattle.nb_walk.specs.Shared.{items_of}
 use Rattle.nb_walk.specs.Terms.{term_mass, pulls}
-use Rattle.nb_walk.specs.Walk.{WalkValue, IsInRange, IsWalkOn}
+use Rattle.nb_walk.specs.Walk.{WalkValue, IsSumInRange, IsWalkOn}
 use Rattle.nb_walk.proofs.Pulling.{angle, pulls-append}
 use Rattle.nb_walk.proofs.Remaining.{remaining_pulls, remaining_terms_mass}
 use Rattle.nb_walk.proofs.Sharing.{items_split, wait_permuted}
@@ -66,7 +66,7 @@ module _ {X : Type 0} where
 -- ---- whatever pages are shown
 
 module _ (params : Params) (tree : Tree) where
-  pub kept_none : (w : WalkValue) → IsInRange params w → KeepsWalk params tree w w
+  pub kept_none : (w : WalkValue) → IsSumInRange params w → KeepsWalk params tree w w
   kept_none w range = record { target = refl; range = range; within = λ few. few; bound = omega arith }
 
   pub kept_then : (old mid new : WalkValue) → KeepsWalk params tree old mid → KeepsWalk params tree mid new → KeepsWalk params tree old new
@@ -112,8 +112,8 @@ module _ (params : Params) (tree : Tree) where
 
 -- ---- over a tree
 
-abbrev paged : Weights
-paged = record { of_leaf = pages_of; of_bodies = pages_of }
+abbrev paged : WorkCosts
+paged = record { of_leaf = pages_spanned; of_bodies = pages_spanned }
 
 module _ (params : Params) (bodies : List Body) (tree : Tree) (file : List ℕ) where
   abbrev On : WalkValue → Type 0
@@ -177,7 +177,7 @@ module _ (params : Params) (bodies : List Body) (tree : Tree) (file : List ℕ) 
             ∙ ap (λ v. plus a.sum (plus v others)) (sym (left_of_part looked old new a b within (part_fits params bodies tree file pre old post a on).0 t))
             ∙ ap (plus a.sum) (sym (vector_sum_of_part (item_force params bodies p) pre old post))
             ∙ on.sum
-            ∙ ap (λ q. force_on params q 0 (in_box bodies)) (sym t.added.target);
+            ∙ ap (λ q. force_on params q 0 (unescaped bodies)) (sym t.added.target);
         mass = omega arith;
         items =
             let inner = all_right item pre (old ++ post) on.items in
@@ -197,7 +197,7 @@ module _ (params : Params) (bodies : List Body) (tree : Tree) (file : List ℕ) 
       }
 
 module _ (cells bodies_shown : ℕ → Option (List ℕ)) (params : Params) (tree : Tree) where
-  pub run_none : (w : WalkValue) → IsInRange params w → HasRun cells bodies_shown params tree 0 w w
+  pub run_none : (w : WalkValue) → IsSumInRange params w → HasRun cells bodies_shown params tree 0 w w
   run_none w range = record { kept = kept_none params tree w range; bound = omega arith; over = λ files bodies of_tree shows on. (on, omega arith) }
 
   pub run_then : (n m : ℕ) (old mid new : WalkValue) → HasRun cells bodies_shown params tree n old mid → HasRun cells bodies_shown params tree m mid new → HasRun cells bodies_shown params tree (n + m) old new
@@ -235,7 +235,7 @@ module _ (cells bodies_shown : ℕ → Option (List ℕ)) (params : Params) (tre
             let fits = part_fits params bodies tree file pre old post a on in
             let t = takes.over files bodies of_tree shows fits.0 fits.1 in
             let fewer = t.fewer in
-            let pages = item_left paged file tree params.leaf bodies in
+            let pages = item_work paged file tree params.leaf bodies in
             let before = sum_of_part pages pre old post in
             let after = sum_of_part pages pre new post in
             (on_part params bodies tree file box looked pre old new post a b within on t, omega arith);
@@ -264,7 +264,7 @@ module _ (cells bodies_shown : ℕ → Option (List ℕ)) (params : Params) (tre
     over = λ files bodies of_tree shows on.
         let file = files tree.cells in
         let box = tree_in_box tree files params bodies of_tree in
-        let pages = sum_by-IsPermutation (item_left paged file tree params.leaf bodies) old new same in
+        let pages = sum_by-IsPermutation (item_work paged file tree params.leaf bodies) old new same in
         (on_permuted params bodies tree file box old new a same on, omega arith);
   }
 

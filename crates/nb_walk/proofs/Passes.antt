@@ -13,11 +13,11 @@ use Rattle.nb_walk.specs.declared.shared.SharedItem.{SharedItem}
 use Rattle.nb_walk.specs.declared.tally.Tally.{Tally}
 use Rattle.nb_walk.specs.Group.{all_shared, group_walks, own_items, shared_bound, walks_from, walks_with, IsGroup, AreTallies, AreAtRest, KeepsRooms, TakesShared}
 use Rattle.nb_walk.specs.Part.{IsTally}
-use Rattle.nb_walk.specs.Room.{IsSmall}
+use Rattle.nb_walk.specs.Room.{IsItemInRange}
 use Rattle.nb_walk.specs.Running.{KeepsWalk, HasRun, Each}
 use Rattle.nb_walk.specs.Shared.{is_left_to, items_of, IsShared}
 use Rattle.nb_walk.specs.Shown.{Shows, shown_for}
-use Rattle.nb_walk.specs.Walk.{WalkValue, IsInRange, IsWalkOn}
+use Rattle.nb_walk.specs.Walk.{WalkValue, IsSumInRange, IsWalkOn}
 use Rattle.nb_walk.proofs.Parts.{kept_then, run_none, run_then}
 use Rattle.nb_walk.proofs.Sharing.{items_of_append, items_of_one, items_of_other, walks_length, walk_at}
 
@@ -43,11 +43,11 @@ left_of_one i e x there = by (is_left_to i e) refl where
 
 -- walks with tallies in range are in range
 pub walk_in_range : (params : Params) (from : ℕ) (tallies : List Tally) (owns : List Own) (entries : List SharedItem) (i : ℕ) (d : WalkValue) → length owns ≡ length tallies → All (IsTally params) tallies → i < length tallies
-    → IsInRange params (get_or (walks_from from tallies owns entries) i d)
+    → IsSumInRange params (get_or (walks_from from tallies owns entries) i d)
 walk_in_range params from [] owns entries i d same all within = absurd (omega arith)
 walk_in_range params from (a ∷ tallies) [] entries i d same all within = absurd (omega arith)
 walk_in_range params from (a ∷ tallies) (o ∷ os) entries i d same all within =
-    subst (IsInRange params) (sym (walk_at from (a ∷ tallies) (o ∷ os) entries i d a o same within)) (all i a within).range
+    subst (IsSumInRange params) (sym (walk_at from (a ∷ tallies) (o ∷ os) entries i d a o same within)) (all i a within).range
 
 -- ---- an item is taken out
 
@@ -91,7 +91,7 @@ module _ (g rest : Group) (e : SharedItem) (is : g.items.items ≡ rest.items.it
         owns = group.owns;
         tallies = group.tallies;
         rooms = group.rooms;
-        small = all_among (λ x. IsSmall x.item) (all_shared g) (all_shared left) among group.small;
+        small = all_among (λ x. IsItemInRange x.item) (all_shared g) (all_shared left) among group.small;
         shared = all_among (IsShared (length g.tallies.items)) (all_shared g) (all_shared left) among group.shared;
         few = (let few = group.few in omega arith);
         items = (let room = group.items in omega arith);
@@ -145,7 +145,7 @@ module _ (cells bodies_shown : ℕ → Option (List ℕ)) (params : Params) (tre
           owns = passed.group.owns;
           tallies = passed.group.tallies;
           rooms = passed.group.rooms;
-          small = subst (λ l. All (λ e. IsSmall e.item) (l ++ now.waits.items)) same passed.group.small;
+          small = subst (λ l. All (λ e. IsItemInRange e.item) (l ++ now.waits.items)) same passed.group.small;
           shared = subst (λ l. All (IsShared (length now.tallies.items)) (l ++ now.waits.items)) same passed.group.shared;
           few = subst (λ l. length (l ++ now.waits.items) ≤ now.room) same passed.group.few;
           items = (let room = passed.group.items in omega arith);

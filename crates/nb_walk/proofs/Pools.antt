@@ -8,7 +8,7 @@ use Rattle.std.proofs.lemmas.List.Elements.{All-contains, All-contains_itself}
 use Rattle.std.proofs.lemmas.Option.{slice_get_within, get_or_from_slice_get}
 use Rattle.nb_model.specs.declared.body.Body.{Body}
 use Rattle.nb_model.specs.declared.params.Params.{Params}
-use Rattle.nb_model.specs.Leapfrog.{in_box}
+use Rattle.nb_model.specs.Leapfrog.{unescaped}
 use Rattle.nb_host.specs.declared.page_name.PageName.{PageName}
 use Rattle.nb_host.specs.Page.{IsRising}
 use Rattle.nb_record.specs.declared.tree.Tree.{Tree}
@@ -25,9 +25,9 @@ use Rattle.nb_walk.specs.Left.{step_bound, item_bound, remaining_pages}
 use Rattle.nb_walk.specs.Page.{IsPageOf}
 use Rattle.nb_walk.specs.Shared.{items_of}
 use Rattle.nb_walk.specs.Shown.{Shows, IsAtMost, shown_for}
-use Rattle.nb_walk.specs.Walk.{WalkValue, IsInRange, IsWithin, IsWalkOn}
+use Rattle.nb_walk.specs.Walk.{WalkValue, IsSumInRange, IsWithin, IsWalkOn}
 use Rattle.nb_walk.specs.Running.{KeepsWalk, HasRun, Each}
-use Rattle.nb_walk.specs.Pool.{PooledWalk, unasked, all_unasked, targets, sums, all_needs, AreInRange, AreWithin, AreFinished, IsSettled, SomeWaits, IsNeeded, IsWanted, pool_bound, CanGoOn, AreOn, IsAdvanced}
+use Rattle.nb_walk.specs.Pool.{PooledWalk, unasked, all_unasked, targets, sums, all_needs, AreSumsInRange, AreWithin, AreFinished, IsSettled, SomeWaits, IsNeeded, IsWanted, pool_bound, CanGoOn, AreOn, IsAdvanced}
 use Rattle.nb_walk.proofs.Lefts.{bound_some}
 use Rattle.nb_walk.proofs.Sharing.{walks_length, walk_at}
 
@@ -264,8 +264,8 @@ module _ (was are : List PooledWalk) (old new : List WalkValue) (was_is : walks_
         let f = λ (w : WalkValue). w.target in
         map_in f are ∙ ap (map f) are_is ∙ map_same Kept f (λ x y kept. kept.target) old new long each ∙ sym (map_in f was ∙ ap (map f) was_is)
 
-    pub new_range : AreInRange params are
-    new_range = all_in (IsInRange params) are (subst (All (IsInRange params)) (sym are_is) (λ k d below. (each k d (omega arith)).range))
+    pub new_range : AreSumsInRange params are
+    new_range = all_in (IsSumInRange params) are (subst (All (IsSumInRange params)) (sym are_is) (λ k d below. (each k d (omega arith)).range))
 
     pub new_within : AreWithin tree.mass was → AreWithin tree.mass are
     new_within few =
@@ -303,7 +303,7 @@ module _ (was are : List PooledWalk) (old new : List WalkValue) (was_is : walks_
     over : Each OnTheirWay (length old) old new
     over k d below = let both = (ran k d below).over files bodies of_tree shows (old_on k d below) in (both.0, omega (arith, both.1))
 
-    pub new_tree : ((in_box bodies ≢ []) → CanGoOn cells bodies_shown tree was → (k : ℕ) × (k < length old) × ((d : WalkValue) → HasRun cells bodies_shown params tree 1 (get_or old k d) (get_or new k d)))
+    pub new_tree : ((unescaped bodies ≢ []) → CanGoOn cells bodies_shown tree was → (k : ℕ) × (k < length old) × ((d : WalkValue) → HasRun cells bodies_shown params tree 1 (get_or old k d) (get_or new k d)))
         → IsAdvanced cells bodies_shown params bodies tree (files tree.cells) was are
     new_tree goes =
         let left = sum_in pages was in
@@ -483,22 +483,22 @@ step_of asked now old mid new was is own_old own_mid count same = record {
 pub each_to : (R : WalkValue → WalkValue → Type 0) (g : Group) (new : List WalkValue) → length g.owns.items ≡ length g.tallies.items → Each R (length g.tallies.items) (group_walks g) new → Each R (length (group_walks g)) (group_walks g) new
 each_to R g new own each k d below = each k d (omega (arith, walks_length 0 g.tallies.items g.owns.items (all_shared g) own))
 
-pub tallies_in : (params : Params) (asked : Bool) (g : Group) (was : List PooledWalk) → pooled_walks asked g ≡ was → length g.owns.items ≡ length g.tallies.items → All IsOwnTally g.tallies.items → AreInRange params was → All (IsTally params) g.tallies.items
+pub tallies_in : (params : Params) (asked : Bool) (g : Group) (was : List PooledWalk) → pooled_walks asked g ≡ was → length g.owns.items ≡ length g.tallies.items → All IsOwnTally g.tallies.items → AreSumsInRange params was → All (IsTally params) g.tallies.items
 tallies_in params asked g was is same owns range k d below =
     let within : k < length (pooled_walks asked g) = omega (arith, group_length asked g same) in
-    let back = subst (AreInRange params) (sym is) range in
+    let back = subst (AreSumsInRange params) (sym is) range in
     let own = owns k d below in
     record { target = own.target; key = own.key; range = at g.tallies.items g.owns.items same back below }
   where
-    at : (tallies : List Tally) (os : List Own) → length os ≡ length tallies → AreInRange params (pooled_walks asked g) → k < length g.tallies.items → IsAtMost (params.grav * (get_or g.tallies.items k d).taken) (get_or g.tallies.items k d).sum
+    at : (tallies : List Tally) (os : List Own) → length os ≡ length tallies → AreSumsInRange params (pooled_walks asked g) → k < length g.tallies.items → IsAtMost (params.grav * (get_or g.tallies.items k d).taken) (get_or g.tallies.items k d).sum
     at tallies os same_ back inside = by_own g.owns.items refl where
       by_own : (owns_ : List Own) → owns_ ≡ g.owns.items → IsAtMost (params.grav * (get_or g.tallies.items k d).taken) (get_or g.tallies.items k d).sum
       by_own [] e = absurd (omega (arith, ap length e))
       by_own (o ∷ rest) e =
-          let all = subst (All (IsInRange params)) (group_in asked g) (all_back (IsInRange params) (pooled_walks asked g) back) in
+          let all = subst (All (IsSumInRange params)) (group_in asked g) (all_back (IsSumInRange params) (pooled_walks asked g) back) in
           let w = walk_of d [] in
           let there = all k w (omega (arith, walks_length 0 g.tallies.items g.owns.items (all_shared g) same)) in
-          subst (IsInRange params) (walk_at 0 g.tallies.items g.owns.items (all_shared g) k w d o same inside) there
+          subst (IsSumInRange params) (walk_at 0 g.tallies.items g.owns.items (all_shared g) k w d o same inside) there
 
 -- where the needs are known and the page of one is shown, a walk's bound falls
 pub bound_lower : (cells bodies_shown : ℕ → Option (List ℕ)) (params : Params) (tree : Tree) (old mid : Group) (x : Item) → length old.owns.items ≡ length old.tallies.items → length (group_walks mid) ≡ length old.tallies.items

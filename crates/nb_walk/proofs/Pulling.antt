@@ -19,7 +19,7 @@ use Rattle.nb_key.proofs.Levels.{child_at}
 use Rattle.nb_key.proofs.Ranges.{same_cell}
 use Rattle.nb_record.specs.Order.{by_key}
 use Rattle.nb_record.specs.Cells.{in_cell}
-use Rattle.nb_model.specs.Leapfrog.{in_box}
+use Rattle.nb_model.specs.Leapfrog.{unescaped}
 use Rattle.std.proofs.lemmas.List.Sorted.{All-permutation}
 use Rattle.nb_record.proofs.Callers.{either, filter_yes, plus-zero, vector_sum-cons, vector_sum-append, octants_agree, octant_of_cell, all_in_cell, in_root, permuted, same_force_of_cell}
 use Rattle.nb_walk.specs.declared.term.Term.{Term}
@@ -146,9 +146,9 @@ module _ (params : Params) (p : At) where
       ]
 
 -- the whole list gives the force of the bodies in the box
-pub list_force : (params : Params) (p : At) (bodies : List Body) → IsInBox p → All (λ b. IsInBox b.at) bodies → pulls params p (terms_to_depth (angle params p) params.leaf 21 1 (in_order bodies)) ≡ force_on params p 0 (in_box bodies)
+pub list_force : (params : Params) (p : At) (bodies : List Body) → IsInBox p → All (λ b. IsInBox b.at) bodies → pulls params p (terms_to_depth (angle params p) params.leaf 21 1 (in_order bodies)) ≡ force_on params p 0 (unescaped bodies)
 list_force params p bodies within box =
-    let all = in_box bodies in
+    let all = unescaped bodies in
     let order = in_order bodies in
     let same = permuted by_key all in
     let inside : All (λ b. IsInBox b.at) all = All-filter (λ b. not b.out) (λ b. IsInBox b.at) bodies box in

@@ -14,7 +14,7 @@ use Rattle.nb_model.specs.Valid.{IsInBox}
 use Rattle.nb_model.specs.Vector.{plus}
 use Rattle.nb_model.specs.Octree.{in_octant, total_mass, centre_of_mass}
 use Rattle.nb_model.specs.Gravity.{octants}
-use Rattle.nb_model.specs.Leapfrog.{in_box}
+use Rattle.nb_model.specs.Leapfrog.{unescaped}
 use Rattle.nb_model.proofs.Facts.{total_mass-octants}
 use Rattle.nb_key.specs.Morton.{key_at, IsKeyAt}
 use Rattle.nb_key.proofs.Levels.{root_is}
@@ -28,7 +28,7 @@ use Rattle.nb_walk.specs.declared.term.Term.{Term}
 use Rattle.nb_walk.specs.declared.term.Term.TheVariants as term
 use Rattle.nb_walk.specs.Angle.{level_of}
 use Rattle.nb_walk.specs.Terms.{Acceptance, body_terms, terms_to_depth, term_mass, pulls}
-use Rattle.nb_walk.specs.Items.{in_order, range_of, item_force, remaining_force, item_mass, remaining_mass, item_terms, remaining_terms}
+use Rattle.nb_walk.specs.Items.{in_order, bodies_from, item_force, remaining_force, item_mass, remaining_mass, item_terms, remaining_terms}
 use Rattle.nb_walk.specs.Left.{IsItemOf, AreItemsOf}
 use Rattle.nb_walk.proofs.KeyLevels.{its_level}
 use Rattle.nb_walk.proofs.Ways.{remaining-nil, remaining-cons, terms_none, terms_accepted, terms_leaf, terms_deepest, terms_parts, under_permuted}
@@ -44,7 +44,7 @@ module _ (params : Params) (bodies : List Body) (tree : Tree) (file : List ℕ) 
   item_pulls : (x : Item) → IsItemOf params bodies tree file x → pulls params p (item_terms (angle params p) params.leaf bodies x) ≡ item_force params bodies p x
   item_pulls (item.Cell key page) is =
       let level = level_of key in
-      let all = in_box bodies in
+      let all = unescaped bodies in
       let order = in_order bodies in
       let at = key_level key page is in
       let same = permuted by_key all in
@@ -57,7 +57,7 @@ module _ (params : Params) (bodies : List Body) (tree : Tree) (file : List ℕ) 
       } in
       terms_force params p (21 - level) level key (in_cell level key order) (omega arith) within own
       ∙ sym (same_force_of_cell params p level key all order at.deepest inside same)
-  item_pulls (item.Bodies from count) is = pulls_bodies params p (range_of bodies from count)
+  item_pulls (item.Bodies from count) is = pulls_bodies params p (bodies_from bodies from count)
 
   pub remaining_pulls : (items : List Item) → AreItemsOf params bodies tree file items → pulls params p (remaining_terms (angle params p) params.leaf bodies items) ≡ remaining_force params bodies p items
   remaining_pulls [] are = ap (pulls params p) (remaining-nil (angle params p) params.leaf bodies)
@@ -121,8 +121,8 @@ module _ (w : Acceptance) (leaf : ℕ) where
   item_terms_mass : (bodies : List Body) (x : Item) → sum_by term_mass (item_terms w leaf bodies x) ≡ item_mass bodies x
   item_terms_mass bodies (item.Cell key page) =
       terms_mass (21 - level_of key) key (in_cell (level_of key) key (in_order bodies))
-      ∙ sum_by-IsPermutation (λ b. b.mass) (in_cell (level_of key) key (in_box bodies)) (in_cell (level_of key) key (in_order bodies)) (under_permuted (level_of key) key bodies)
-  item_terms_mass bodies (item.Bodies from count) = mass_of_bodies (range_of bodies from count)
+      ∙ sum_by-IsPermutation (λ b. b.mass) (in_cell (level_of key) key (unescaped bodies)) (in_cell (level_of key) key (in_order bodies)) (under_permuted (level_of key) key bodies)
+  item_terms_mass bodies (item.Bodies from count) = mass_of_bodies (bodies_from bodies from count)
 
   pub remaining_terms_mass : (bodies : List Body) (items : List Item) → sum_by term_mass (remaining_terms w leaf bodies items) ≡ remaining_mass bodies items
   remaining_terms_mass bodies [] = ap (sum_by term_mass) (remaining-nil w leaf bodies)

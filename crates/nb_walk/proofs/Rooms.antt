@@ -15,7 +15,7 @@ use Rattle.nb_walk.specs.declared.item.Item.{Item}
 use Rattle.nb_walk.specs.declared.item.Item.TheVariants as item
 use Rattle.nb_walk.specs.Angle.{level_of}
 use Rattle.nb_walk.specs.Items.{last_item}
-use Rattle.nb_walk.specs.Room.{item_level, IsSmall, HasRoom}
+use Rattle.nb_walk.specs.Room.{item_level, IsItemInRange, HasRoom}
 use Rattle.nb_walk.specs.Looks.{kid_items}
 use Rattle.nb_walk.proofs.KeyLevels.{its_level, child_level, level_most}
 
@@ -42,26 +42,26 @@ found_pushed (a ∷ xs) x y zero is = inl is
 found_pushed (a ∷ xs) x y (suc i) is =
     elim (found_pushed xs x y i is) [ inl before ↦ inl before | inr end ↦ inr (ap suc end.0, end.1) ]
 
-pub room_push : (xs : List Item) (x : Item) → HasRoom xs → IsSmall x → length xs ≤ 7 * item_level x → HasRoom (xs ++ x ∷ [])
+pub room_push : (xs : List Item) (x : Item) → HasRoom xs → IsItemInRange x → length xs ≤ 7 * item_level x → HasRoom (xs ++ x ∷ [])
 room_push xs x room small depth = record {
   each = λ i y is. elim (found_pushed xs x y i is) [
     | inl before ↦ room.each i y before
     | inr end ↦ subst (λ z. i ≤ 7 * item_level z) end.1 (subst (λ n. n ≤ 7 * item_level x) (sym end.0) depth)
   ];
-  small = All-push IsSmall xs x room.small small;
+  small = All-push IsItemInRange xs x room.small small;
 }
 
 pub room_front : (xs : List Item) (x : Item) → HasRoom (xs ++ x ∷ []) → HasRoom xs
 room_front xs x room = record {
   each = λ i y is. room.each i y (before_end xs x i (slice_get_within xs i y is) ∙ is);
-  small = (All-pop IsSmall (xs ++ x ∷ []) xs (Some x) refl room.small).0;
+  small = (All-pop IsItemInRange (xs ++ x ∷ []) xs (Some x) refl room.small).0;
 }
 
 pub room_depth : (xs : List Item) (x : Item) → HasRoom (xs ++ x ∷ []) → length xs ≤ 7 * item_level x
 room_depth xs x room = room.each (length xs) x (at_end xs x)
 
-pub room_small : (xs : List Item) (x : Item) → HasRoom (xs ++ x ∷ []) → IsSmall x
-room_small xs x room = (All-pop IsSmall (xs ++ x ∷ []) xs (Some x) refl room.small).1
+pub room_small : (xs : List Item) (x : Item) → HasRoom (xs ++ x ∷ []) → IsItemInRange x
+room_small xs x room = (All-pop IsItemInRange (xs ++ x ∷ []) xs (Some x) refl room.small).1
 
 -- ---- the octants of a cell
 
@@ -73,9 +73,6 @@ not_deepest key is above =
     let some = eight_pos (level_of key) in
     let below = at.below in
     omega arith
-
-pub kid_item : ℕ → ℕ → ℕ → List Item
-kid_item key kids octant = cond (eqb (kids / 2 ^ octant % 2) 1) (item.Cell (8 * key + octant) 0 ∷ []) []
 
 pub kid_next : (key kids i : ℕ) → i < 8 → kid_items key kids (drop (8 - (i + 1)) octants) ≡ kid_items key kids (drop (8 - i) octants) ++ cond (eqb (kids / 2 ^ (7 - i) % 2) 1) (item.Cell (8 * key + (7 - i)) 0 ∷ []) []
 unfolding kid_items

@@ -17,11 +17,11 @@ use Rattle.nb_walk.specs.declared.tally.Tally.{Tally}
 use Rattle.nb_walk.specs.Group.{all_shared, group_walks, own_items, walk_of, IsGroup, AreTallies, AreAtRest, LooksWhereShown, LooksAtShared, RunsOwn}
 use Rattle.nb_walk.specs.Items.{last_item}
 use Rattle.nb_walk.specs.Part.{IsTally}
-use Rattle.nb_walk.specs.Room.{IsSmall}
+use Rattle.nb_walk.specs.Room.{IsItemInRange}
 use Rattle.nb_walk.specs.Running.{KeepsWalk, HasRun, Each}
 use Rattle.nb_walk.specs.Shared.{items_of, IsShared}
 use Rattle.nb_walk.specs.Shown.{Shows, shown_for}
-use Rattle.nb_walk.specs.Walk.{WalkValue, IsInRange, IsWalkOn}
+use Rattle.nb_walk.specs.Walk.{WalkValue, IsSumInRange, IsWalkOn}
 use Rattle.nb_walk.proofs.Courses.{none_left}
 use Rattle.nb_walk.proofs.Parts.{kept_then, run_then, run_permuted}
 use Rattle.nb_walk.proofs.Passes.{all_among}
@@ -81,7 +81,7 @@ module _ (g from : Group) (reversed : List SharedItem) (group : IsGroup g) (same
     owns = group.owns;
     tallies = group.tallies;
     rooms = group.rooms;
-    small = all_among (λ x. IsSmall x.item) (all_shared g) (all_shared turned_group) among group.small;
+    small = all_among (λ x. IsItemInRange x.item) (all_shared g) (all_shared turned_group) among group.small;
     shared = all_among (IsShared (length g.tallies.items)) (all_shared g) (all_shared turned_group) among group.shared;
     few = (let few = group.few in let long = length_permutation (all_shared g) (all_shared turned_group) turned_all in omega arith);
     items = (let room = group.items in omega arith);
@@ -180,7 +180,7 @@ module _ (cells bodies_shown : ℕ → Option (List ℕ)) (params : Params) (tre
   cleared : WalkValue → WalkValue
   cleared w = record { target = w.target; sum = w.sum; taken = w.taken; items = [] }
 
-  cleared_run : tree.count ≡ 0 → (w : WalkValue) → IsInBox w.target → IsInRange params w → Run 0 w (record { target = w.target; sum = w.sum; taken = w.taken; items = [] })
+  cleared_run : tree.count ≡ 0 → (w : WalkValue) → IsInBox w.target → IsSumInRange params w → Run 0 w (record { target = w.target; sum = w.sum; taken = w.taken; items = [] })
   cleared_run none w within range = record {
     kept = record { target = refl; range = range; within = λ few. few; bound = omega arith };
     bound = omega arith;

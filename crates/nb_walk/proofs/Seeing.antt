@@ -6,7 +6,7 @@ use Rattle.std.proofs.lemmas.List.Elements.{All-contains, All-cons, All-head, Al
 use Rattle.std.proofs.lemmas.Option.{slice_get_within, get_or_from_slice_get}
 use Rattle.nb_model.specs.declared.body.Body.{Body}
 use Rattle.nb_model.specs.declared.params.Params.{Params}
-use Rattle.nb_model.specs.Leapfrog.{in_box}
+use Rattle.nb_model.specs.Leapfrog.{unescaped}
 use Rattle.nb_key.specs.Morton.{IsKeyAt}
 use Rattle.nb_host.specs.Page.{page_of}
 use Rattle.nb_record.specs.declared.answer.Look.{Look}
@@ -65,7 +65,7 @@ module _ (file : List ℕ) (tree : Tree) (key page i : ℕ) (leads : LeadsOn fil
 -- what the answer of a search says
 abbrev pub Seen : Params → List Body → Tree → List ℕ → ℕ → ℕ → Look → Type 0
 Seen params bodies tree file key page (Found cell) =
-    (cell.key ≡ key) × IsTreeCell params (in_box bodies) (level_of key) cell × (pages_to file tree key (chain_page tree.bits key page) ≡ 1)
+    (cell.key ≡ key) × IsTreeCell params (unescaped bodies) (level_of key) cell × (pages_to file tree key (chain_page tree.bits key page) ≡ 1)
 Seen params bodies tree file key page (Next next) =
     (next < tree.pages) × IsCellItem params bodies tree file key next
     × (pages_to file tree key (chain_page tree.bits key page) ≡ suc (pages_to file tree key (chain_page tree.bits key next)))
@@ -89,7 +89,7 @@ module _ (params : Params) (bodies : List Body) (tree : Tree) (file : List ℕ) 
       ] in
       let in_tree : Contains (tree_cells params bodies) cell = All-contains (λ c. Contains (tree_cells params bodies) c) (cells_on_chain file tree.pages at) cell item.held on_chain in
       let at_level : IsKeyAt (level_of key) cell.key = subst (IsKeyAt (level_of key)) (item.key_is ∙ sym found.1) item.is.key in
-      (found.1, at_its_level params (in_box bodies) (level_of key) cell in_tree at_level, one_page file tree key at i leads item.within is)
+      (found.1, at_its_level params (unescaped bodies) (level_of key) cell in_tree at_level, one_page file tree key at i leads item.within is)
 
   seen_next : (key page : ℕ) → IsCellItem params bodies tree file key page → index_of_key key (page_of file (chain_page tree.bits key page)) ≡ None
       → (next_of file (chain_page tree.bits key page) ≡ 0 → ⊥) × (next_of file (chain_page tree.bits key page) ≢ 0 → Seen params bodies tree file key page (Next (next_of file (chain_page tree.bits key page))))

@@ -16,7 +16,7 @@ use Rattle.nb_record.specs.declared.header.PageError.{PageError}
 use Rattle.nb_record.specs.declared.sizes.TheConstants.{BODIES_PER_PAGE}
 use Rattle.nb_record.specs.declared.tree.Tree.{Tree}
 use Rattle.nb_record.specs.Order.{by_key, sorted_by}
-use Rattle.nb_record.specs.Pages.{page_count, read_body_page}
+use Rattle.nb_record.specs.Pages.{record_count, read_body_page}
 use Rattle.nb_record.specs.Records.{IsCell, body_record, IsBodyRecord}
 use Rattle.nb_record.specs.Tree.{IsTreeOf}
 use Rattle.nb_walk.specs.declared.group.Group.{Group}
@@ -30,12 +30,12 @@ use Rattle.nb_walk.specs.declared.term.Term.{Term}
 use Rattle.nb_walk.specs.declared.term.Term.TheVariants as term
 use Rattle.nb_walk.specs.Angle.{by_angle}
 use Rattle.nb_walk.specs.Group.{walk_of, own_items, walks_from, all_shared, group_walks, walks_with, AreTallies, IsAtRest, shared_bound, TakesShared, Meets, AddsTo}
-use Rattle.nb_walk.specs.Items.{range_of, remaining_mass, page_for}
+use Rattle.nb_walk.specs.Items.{bodies_from, remaining_mass, page_for}
 use Rattle.nb_walk.specs.Left.{AreItemsOf, item_bound, step_bound}
 use Rattle.nb_walk.specs.Looks.{kid_items, opened_items}
 use Rattle.nb_walk.specs.Part.{IsTally, KeepsTally, TakesPart}
 use Rattle.nb_walk.specs.Pool.{BlamesOne}
-use Rattle.nb_walk.specs.Room.{IsSmall}
+use Rattle.nb_walk.specs.Room.{IsItemInRange}
 use Rattle.nb_walk.specs.Running.{KeepsWalk, HasRun, Each, EachAt}
 use Rattle.nb_walk.specs.Shared.{is_left_to, items_of, shared_by, IsShared}
 use Rattle.nb_walk.specs.Shown.{Shows, shown_for}
@@ -134,12 +134,12 @@ module _ (cells bodies_shown : ℕ → Option (List ℕ)) (params : Params) (tre
     OverBodies Holds = (files : ℕ → List ℕ) (bodies : List Body) → IsTreeOf tree files params bodies → Shows cells bodies_shown tree files
         → AreItemsOf params bodies tree (files tree.cells) (of_range ∷ []) → Holds files bodies
 
-    same_terms : from % BODIES_PER_PAGE + here ≤ page_count bytes → OverBodies (λ files bodies. here_terms ≡ body_terms (range_of bodies from here))
+    same_terms : from % BODIES_PER_PAGE + here ≤ record_count bytes → OverBodies (λ files bodies. here_terms ≡ body_terms (bodies_from bodies from here))
     same_terms on_this files bodies of_tree shows items =
         let own = bodies_of_item (λ (k m : ℕ) p. true) params tree files bodies of_tree [] from count items in
         page_range params tree files bodies of_tree [] cells bodies_shown from count here bytes shows (record { answer = lent.answer; is = lent.is; some = lent.some }) own.1 few on_page on_this
 
-    pub part_page : (a b : Tally) → from % BODIES_PER_PAGE + here ≤ page_count bytes → here < count → 1 ≤ here → from % BODIES_PER_PAGE + here ≡ BODIES_PER_PAGE
+    pub part_page : (a b : Tally) → from % BODIES_PER_PAGE + here ≤ record_count bytes → here < count → 1 ≤ here → from % BODIES_PER_PAGE + here ≡ BODIES_PER_PAGE
         → KeepsTally params tree.mass a b → Adds params here_terms a b → Looks (of_range ∷ []) (item.Bodies (from + here) (count - here) ∷ []) a b
     part_page a b on_this more some to_end kept added =
         let z = item.Bodies (from + here) (count - here) in
@@ -147,7 +147,7 @@ module _ (cells bodies_shown : ℕ → Option (List ℕ)) (params : Params) (tre
         (λ files bodies of_tree shows items. takes_page params tree files bodies of_tree [] from count here (z ∷ []) a b items more some to_end refl
         (subst (λ ts. Adds params ts a b) (same_terms on_this files bodies of_tree shows items) added))
 
-    pub part_rest : (a b : Tally) → from % BODIES_PER_PAGE + here ≤ page_count bytes → count ≤ here → KeepsTally params tree.mass a b → Adds params here_terms a b → Looks (of_range ∷ []) [] a b
+    pub part_rest : (a b : Tally) → from % BODIES_PER_PAGE + here ≤ record_count bytes → count ≤ here → KeepsTally params tree.mass a b → Adds params here_terms a b → Looks (of_range ∷ []) [] a b
     part_rest a b on_this less kept added =
         takes_part (of_range ∷ []) [] a b kept (omega (arith, one_bound of_range))
         (λ files bodies of_tree shows items. takes_rest params tree files bodies of_tree [] from count here a b items less few
@@ -159,7 +159,7 @@ module _ (cells bodies_shown : ℕ → Option (List ℕ)) (params : Params) (tre
         let own = bodies_of_item (λ (k m : ℕ) p. true) params tree files bodies of_tree [] from count items in
         has_body params tree files bodies of_tree [] cells bodies_shown from count j bytes shows (record { answer = lent.answer; is = lent.is; some = lent.some }) own.1 below on
 
-    pub has_all : 1 ≤ here → page_count bytes < from % BODIES_PER_PAGE + here → OverBodies (λ files bodies. ⊥)
+    pub has_all : 1 ≤ here → record_count bytes < from % BODIES_PER_PAGE + here → OverBodies (λ files bodies. ⊥)
     has_all some more files bodies of_tree shows items =
         let last = has_one (here - 1) (omega arith) (omega arith) files bodies of_tree shows items in
         let within = last.within in
@@ -172,7 +172,7 @@ module _ (cells bodies_shown : ℕ → Option (List ℕ)) (params : Params) (tre
         let there = has_one (i - index) (omega arith) (omega arith) files bodies of_tree shows items in
         bad (subst (λ k. IsBodyRecord (body_record k bytes)) back there.form)
 
-    pub too_many : (a : Tally) → from % BODIES_PER_PAGE + here ≤ page_count bytes → tree.mass < a.taken + sum_by term_mass here_terms → OverBodies (λ files bodies. tree.mass < a.taken + remaining_mass bodies (of_range ∷ []))
+    pub too_many : (a : Tally) → from % BODIES_PER_PAGE + here ≤ record_count bytes → tree.mass < a.taken + sum_by term_mass here_terms → OverBodies (λ files bodies. tree.mass < a.taken + remaining_mass bodies (of_range ∷ []))
     too_many a on_this heavy files bodies of_tree shows items =
         range_heavy params tree files bodies of_tree [] from count here a few
         (subst (λ ts. tree.mass < a.taken + sum_by term_mass ts) (same_terms on_this files bodies of_tree shows items) heavy)
@@ -389,15 +389,15 @@ AreOctants (o ∷ os) = (o < 8) × AreOctants os
 eight : AreOctants octants
 eight = (omega arith, (omega arith, (omega arith, (omega arith, (omega arith, (omega arith, (omega arith, (omega arith, tt))))))))
 
-kids_small : (key kids : ℕ) (os : List ℕ) → AreOctants os → IsKey key → key < 8 ^ 21 → All IsSmall (kid_items key kids os)
+kids_small : (key kids : ℕ) (os : List ℕ) → AreOctants os → IsKey key → key < 8 ^ 21 → All IsItemInRange (kid_items key kids os)
 unfolding kid_items
-kids_small key kids [] below is above = all_none IsSmall
+kids_small key kids [] below is above = all_none IsItemInRange
 kids_small key kids (o ∷ os) below is above =
-    All-append IsSmall (kid_items key kids os) _ (kids_small key kids os below.1 is above) (one (eqb (kids / 2 ^ o % 2) 1))
+    All-append IsItemInRange (kid_items key kids os) _ (kids_small key kids os below.1 is above) (one (eqb (kids / 2 ^ o % 2) 1))
   where
-    one : (t : Bool) → All IsSmall (cond t (item.Cell (8 * key + o) 0 ∷ []) [])
-    one true = all_one IsSmall (item.Cell (8 * key + o) 0) (child_is key o is above below.0, omega arith)
-    one false = all_none IsSmall
+    one : (t : Bool) → All IsItemInRange (cond t (item.Cell (8 * key + o) 0 ∷ []) [])
+    one true = all_one IsItemInRange (item.Cell (8 * key + o) 0) (child_is key o is above below.0, omega arith)
+    one false = all_none IsItemInRange
 
 kids_few : (key kids : ℕ) (os : List ℕ) → length (kid_items key kids os) ≤ length os
 unfolding kid_items
@@ -411,17 +411,17 @@ kids_few key kids (o ∷ os) =
     one true = omega arith
     one false = omega arith
 
-pub opened_small : (cell : Cell) → IsCell cell → All IsSmall (opened_items cell)
+pub opened_small : (cell : Cell) → IsCell cell → All IsItemInRange (opened_items cell)
 opened_small cell is = elim (cases_eq cell.kids 0) [
   | inl none ↦
       let opened = cond-true (eqb cell.kids 0) (item.Bodies cell.first cell.count ∷ []) (kid_items cell.key cell.kids octants) (eq-eqb cell.kids 0 none) in
       let low = is.first in
       let some = is.some_bodies in
       let few = is.count in
-      subst (All IsSmall) (sym opened) (all_one IsSmall (item.Bodies cell.first cell.count) (omega arith, omega arith))
+      subst (All IsItemInRange) (sym opened) (all_one IsItemInRange (item.Bodies cell.first cell.count) (omega arith, omega arith))
   | inr some ↦
       let opened = cond-false (eqb cell.kids 0) (item.Bodies cell.first cell.count ∷ []) (kid_items cell.key cell.kids octants) (ne_eqb cell.kids 0 some) in
-      subst (All IsSmall) (sym opened) (kids_small cell.key cell.kids octants eight is.key (not_deepest cell.key is.key (divided_level cell cell.kids is refl some)))
+      subst (All IsItemInRange) (sym opened) (kids_small cell.key cell.kids octants eight is.key (not_deepest cell.key is.key (divided_level cell cell.kids is refl some)))
 ]
 
 pub opened_few : (cell : Cell) → length (opened_items cell) ≤ 8

@@ -6,12 +6,12 @@ use Rattle.std.proofs.lemmas.List.Elements.{All-push, All-append, All-pop}
 use Rattle.nb_model.specs.declared.body.At.{At}
 use Rattle.nb_model.specs.declared.body.Body.{Body}
 use Rattle.nb_model.specs.declared.params.Params.{Params}
-use Rattle.nb_model.specs.Leapfrog.{in_box}
+use Rattle.nb_model.specs.Leapfrog.{unescaped}
 use Rattle.nb_host.specs.declared.page_name.PageName.{PageName}
 use Rattle.nb_record.specs.declared.cell.Cell.{Cell}
 use Rattle.nb_record.specs.declared.tree.Tree.{Tree}
 use Rattle.nb_record.specs.declared.header.PageError.{PageError}
-use Rattle.nb_record.specs.Pages.{page_count, read_body_page}
+use Rattle.nb_record.specs.Pages.{record_count, read_body_page}
 use Rattle.nb_record.specs.Records.{body_record, body_of, IsBodyRecord}
 use Rattle.nb_record.specs.Order.{by_key, sorted_by}
 use Rattle.nb_record.specs.Cells.{in_cell}
@@ -30,7 +30,7 @@ use Rattle.nb_walk.specs.declared.term.Term.TheVariants as term
 use Rattle.nb_walk.specs.Angle.{level_of}
 use Rattle.nb_walk.specs.Terms.{Acceptance}
 use Rattle.nb_walk.specs.Items.{bodies_under, remaining_terms}
-use Rattle.nb_walk.specs.Left.{Weights, item_left, IsCellItem, IsItemOf, AreItemsOf}
+use Rattle.nb_walk.specs.Left.{WorkCosts, item_work, IsCellItem, IsItemOf, AreItemsOf}
 use Rattle.nb_walk.specs.Looks.{opened_items}
 use Rattle.nb_walk.specs.Shown.{Shows}
 use Rattle.nb_walk.specs.Sight.{SeesOver}
@@ -54,7 +54,7 @@ wanted seen known P is seen_is name = (
 
 -- ---- at a cell
 
-abbrev steps : Weights
+abbrev steps : WorkCosts
 steps = record { of_leaf = λ from count. suc count; of_bodies = λ from count. count }
 
 module _ (w : Acceptance) (params : Params) (tree : Tree) (files : ℕ → List ℕ) (bodies : List Body) (of_tree : IsTreeOf tree files params bodies) (front : List Item) where
@@ -90,8 +90,8 @@ module _ (w : Acceptance) (params : Params) (tree : Tree) (files : ℕ → List 
       core items seen =
           let x = item.Cell cell.key page in
           let more = left_accepted steps file tree params bodies cell.key page seen.1.some seen.2 in
-          let sum = sum_by-append (item_left steps file tree params.leaf bodies) front (x ∷ []) in
-          let last = sum_by-cons (item_left steps file tree params.leaf bodies) x [] in
+          let sum = sum_by-append (item_work steps file tree params.leaf bodies) front (x ∷ []) in
+          let last = sum_by-cons (item_work steps file tree params.leaf bodies) x [] in
           record {
             items = front_items x items;
             terms = (
@@ -123,9 +123,9 @@ module _ (w : Acceptance) (params : Params) (tree : Tree) (files : ℕ → List 
   step_next key page next new items seen is =
       let x = item.Cell key page in
       let y = item.Cell key next in
-      let some : bodies_under key (in_box bodies) ≢ [] = subst (λ k. in_cell (level_of key) k (in_box bodies) ≢ []) seen.0.key_is seen.0.is.some in
+      let some : bodies_under key (unescaped bodies) ≢ [] = subst (λ k. in_cell (level_of key) k (unescaped bodies) ≢ []) seen.0.key_is seen.0.is.some in
       let less = left_next steps file tree params bodies key page next some seen.1 in
-      let one = sum_by-cons (item_left steps file tree params.leaf bodies) y [] in
+      let one = sum_by-cons (item_work steps file tree params.leaf bodies) y [] in
       subst (λ l. Along key page l step.Moved) (sym is)
       (record {
         items = All-push (IsItemOf params bodies tree file) front y (front_items x items) (inr seen.0);
@@ -140,12 +140,12 @@ module _ (w : Acceptance) (params : Params) (tree : Tree) (files : ℕ → List 
 -- what the page of a body has at its index
 pub record HasBody (bytes : List ℕ) (page i : ℕ) (body : Option Body) : Type 0 where
   pub checked : read_body_page page bytes ≡ Ok bytes
-  pub within : i < page_count bytes
+  pub within : i < record_count bytes
   pub form : IsBodyRecord (body_record i bytes)
   pub is : body ≡ Some (body_of (body_record i bytes))
 
 pub body_here : (params : Params) (tree : Tree) (files : ℕ → List ℕ) (bodies : List Body) (cells_shown bodies_shown : ℕ → Option (List ℕ)) (from : ℕ) (bytes : List ℕ)
-    → IsTreeOf tree files params bodies → Shows cells_shown bodies_shown tree files → from < length (in_box bodies) → bodies_shown (from / BODIES_PER_PAGE) ≡ Some bytes
+    → IsTreeOf tree files params bodies → Shows cells_shown bodies_shown tree files → from < length (unescaped bodies) → bodies_shown (from / BODIES_PER_PAGE) ≡ Some bytes
     → HasBody bytes (from / BODIES_PER_PAGE) (from % BODIES_PER_PAGE) (slice_get (sorted_by by_key bodies) from)
 body_here params tree files bodies cells_shown bodies_shown from bytes of_tree shows inside shown =
     let order = sorted_by by_key bodies in
@@ -161,7 +161,7 @@ body_here params tree files bodies cells_shown bodies_shown from bytes of_tree s
     (record { checked = checked; within = omega arith; form = held.records from within; is = held.held from within })
 
 module _ (w : Acceptance) (params : Params) (tree : Tree) (files : ℕ → List ℕ) (bodies : List Body) (of_tree : IsTreeOf tree files params bodies) (front : List Item) where
-  pub bodies_of_item : (from count : ℕ) → AreItemsOf params bodies tree (files tree.cells) (front ++ item.Bodies from count ∷ []) → (1 ≤ count) × (from + count ≤ length (in_box bodies))
+  pub bodies_of_item : (from count : ℕ) → AreItemsOf params bodies tree (files tree.cells) (front ++ item.Bodies from count ∷ []) → (1 ≤ count) × (from + count ≤ length (unescaped bodies))
   bodies_of_item from count items = (All-pop (IsItemOf params bodies tree (files tree.cells)) (front ++ item.Bodies from count ∷ []) front (Some (item.Bodies from count)) refl items).1
 
   -- one body, and more behind it
@@ -171,7 +171,7 @@ module _ (w : Acceptance) (params : Params) (tree : Tree) (files : ℕ → List 
       let x = item.Bodies from count in
       let y = item.Bodies (from + 1) (count - 1) in
       let own = bodies_of_item from count items in
-      let one = sum_by-cons (item_left steps (files tree.cells) tree params.leaf bodies) y [] in
+      let one = sum_by-cons (item_work steps (files tree.cells) tree params.leaf bodies) y [] in
       subst (λ l. StepsAlong w params tree files bodies (front ++ x ∷ []) l (step.Term (term.Body b))) (sym there)
       (record {
         items = All-push (IsItemOf params bodies tree (files tree.cells)) front y (front_items w params tree files bodies of_tree front x items) (omega arith, omega arith);
@@ -188,7 +188,7 @@ module _ (w : Acceptance) (params : Params) (tree : Tree) (files : ℕ → List 
   step_last from count b new items is last there =
       let x = item.Bodies from count in
       let own = bodies_of_item from count items in
-      let left = item_left steps (files tree.cells) tree params.leaf bodies in
+      let left = item_work steps (files tree.cells) tree params.leaf bodies in
       let sum = sum_by-append left front (x ∷ []) in
       let one = sum_by-cons left x [] in
       subst (λ l. StepsAlong w params tree files bodies (front ++ x ∷ []) l (step.Term (term.Body b))) (sym there)
@@ -208,7 +208,7 @@ lent page None answer read is some = absurd (let no = sym is ∙ some in cc)
 lent page (Some bytes) answer read is some = (bytes, refl, (let same = sym is ∙ some in cc))
 
 pub page_has : (params : Params) (tree : Tree) (files : ℕ → List ℕ) (bodies : List Body) (cells_shown bodies_shown : ℕ → Option (List ℕ)) (from : ℕ) (answer : Option (Result (List ℕ) PageError)) (bytes : List ℕ)
-    → IsTreeOf tree files params bodies → Shows cells_shown bodies_shown tree files → from < length (in_box bodies)
+    → IsTreeOf tree files params bodies → Shows cells_shown bodies_shown tree files → from < length (unescaped bodies)
     → answer ≡ option_map (λ b. read_body_page (from / BODIES_PER_PAGE) b) (bodies_shown (from / BODIES_PER_PAGE)) → answer ≡ Some (Ok bytes)
     → HasBody bytes (from / BODIES_PER_PAGE) (from % BODIES_PER_PAGE) (slice_get (sorted_by by_key bodies) from)
 page_has params tree files bodies cells_shown bodies_shown from answer bytes of_tree shows inside is some =
@@ -218,7 +218,7 @@ page_has params tree files bodies cells_shown bodies_shown from answer bytes of_
     subst (λ b. HasBody b (from / BODIES_PER_PAGE) (from % BODIES_PER_PAGE) (slice_get (sorted_by by_key bodies) from)) same has
 
 pub page_checks : (params : Params) (tree : Tree) (files : ℕ → List ℕ) (bodies : List Body) (cells_shown bodies_shown : ℕ → Option (List ℕ)) (from : ℕ) (answer : Option (Result (List ℕ) PageError)) (error : PageError)
-    → IsTreeOf tree files params bodies → Shows cells_shown bodies_shown tree files → from < length (in_box bodies)
+    → IsTreeOf tree files params bodies → Shows cells_shown bodies_shown tree files → from < length (unescaped bodies)
     → answer ≡ option_map (λ b. read_body_page (from / BODIES_PER_PAGE) b) (bodies_shown (from / BODIES_PER_PAGE)) → answer ≡ Some (Err error) → ⊥
 page_checks params tree files bodies cells_shown bodies_shown from answer error of_tree shows inside is some =
     let got = lent (from / BODIES_PER_PAGE) (bodies_shown (from / BODIES_PER_PAGE)) answer (Err error) is some in

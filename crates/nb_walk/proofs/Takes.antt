@@ -7,14 +7,14 @@ use Rattle.std.proofs.lemmas.List.Elements.{All-push}
 use Rattle.std.proofs.lemmas.Option.{get_or_from_slice_get}
 use Rattle.nb_model.specs.declared.body.Body.{Body}
 use Rattle.nb_model.specs.declared.params.Params.{Params}
-use Rattle.nb_model.specs.Leapfrog.{in_box}
+use Rattle.nb_model.specs.Leapfrog.{unescaped}
 use Rattle.nb_record.specs.declared.cell.Cell.{Cell}
 use Rattle.nb_record.specs.declared.header.PageError.{PageError}
 use Rattle.nb_record.specs.declared.sizes.TheConstants.{BODIES_PER_PAGE}
 use Rattle.nb_record.specs.declared.tree.Tree.{Tree}
 use Rattle.nb_record.specs.Cells.{in_cell}
 use Rattle.nb_record.specs.Order.{by_key, sorted_by}
-use Rattle.nb_record.specs.Pages.{page_count, read_body_page}
+use Rattle.nb_record.specs.Pages.{record_count, read_body_page}
 use Rattle.nb_record.specs.Records.{bodies_of, body_record, body_of}
 use Rattle.nb_record.specs.Tree.{IsTreeOf}
 use Rattle.nb_record.proofs.Callers.{body_at, length-bodies_of, length-sorted_by}
@@ -31,8 +31,8 @@ use Rattle.nb_walk.specs.declared.term.Term.{Term}
 use Rattle.nb_walk.specs.declared.term.Term.TheVariants as term
 use Rattle.nb_walk.specs.Angle.{level_of, by_angle}
 use Rattle.nb_walk.specs.Terms.{body_terms, term_mass}
-use Rattle.nb_walk.specs.Items.{range_of, bodies_under, remaining_terms, remaining_mass}
-use Rattle.nb_walk.specs.Left.{Weights, pages_of, item_left, IsItemOf, AreItemsOf, remaining_pages}
+use Rattle.nb_walk.specs.Items.{bodies_from, bodies_under, remaining_terms, remaining_mass}
+use Rattle.nb_walk.specs.Left.{WorkCosts, pages_spanned, item_work, IsItemOf, AreItemsOf, remaining_pages}
 use Rattle.nb_walk.specs.Looks.{opened_items}
 use Rattle.nb_walk.specs.Shown.{Shows}
 use Rattle.nb_walk.specs.Sight.{SeesOver}
@@ -54,8 +54,8 @@ too_heavy params bodies tree old new a terms along heavy =
     let own = remaining_terms_mass w params.leaf bodies old in
     omega arith
 
-abbrev paged : Weights
-paged = record { of_leaf = pages_of; of_bodies = pages_of }
+abbrev paged : WorkCosts
+paged = record { of_leaf = pages_spanned; of_bodies = pages_spanned }
 
 module _ (params : Params) (tree : Tree) (files : ℕ → List ℕ) (bodies : List Body) (of_tree : IsTreeOf tree files params bodies) (front : List Item) where
   abbrev file : List ℕ
@@ -64,8 +64,8 @@ module _ (params : Params) (tree : Tree) (files : ℕ → List ℕ) (bodies : Li
   abbrev Along : List Item → List Item → Tally → Tally → Type 0
   Along old new a b = TakesAlong params bodies tree file old new a b
 
-  cell_some : (cell : Cell) (key page : ℕ) → SeesOver params bodies tree file key page (sight.Cell cell) → bodies_under key (in_box bodies) ≢ []
-  cell_some cell key page seen = subst (λ k. in_cell (level_of key) k (in_box bodies) ≢ []) seen.0 seen.1.some
+  cell_some : (cell : Cell) (key page : ℕ) → SeesOver params bodies tree file key page (sight.Cell cell) → bodies_under key (unescaped bodies) ≢ []
+  cell_some cell key page seen = subst (λ k. in_cell (level_of key) k (unescaped bodies) ≢ []) seen.0 seen.1.some
 
   -- a cell as one mass
   pub takes_accepted : (cell : Cell) (key page : ℕ) (a b : Tally) → AreItemsOf params bodies tree file (front ++ item.Cell key page ∷ []) → SeesOver params bodies tree file key page (sight.Cell cell)
@@ -116,9 +116,9 @@ module _ (params : Params) (tree : Tree) (files : ℕ → List ℕ) (bodies : Li
       let x = item.Cell key page in
       let y = item.Cell key next in
       let steps = step_next (angle params a.target) params tree files bodies of_tree front key page next new items seen is in
-      let some : bodies_under key (in_box bodies) ≢ [] = subst (λ k. in_cell (level_of key) k (in_box bodies) ≢ []) seen.0.key_is seen.0.is.some in
+      let some : bodies_under key (unescaped bodies) ≢ [] = subst (λ k. in_cell (level_of key) k (unescaped bodies) ≢ []) seen.0.key_is seen.0.is.some in
       let less = left_next paged file tree params bodies key page next some seen.1 in
-      let one = sum_by-cons (item_left paged file tree params.leaf bodies) y [] in
+      let one = sum_by-cons (item_work paged file tree params.leaf bodies) y [] in
       let among_ = left_among paged file tree params bodies front (y ∷ []) x (omega arith) in
       record {
         terms = [];
@@ -141,7 +141,7 @@ module _ (params : Params) (tree : Tree) (files : ℕ → List ℕ) (bodies : Li
 
   -- the page has the bodies that are to be taken
   pub has_body : (cells_shown bodies_shown : ℕ → Option (List ℕ)) (from count j : ℕ) (bytes : List ℕ) → Pages cells_shown bodies_shown → Lent bodies_shown from bytes
-      → from + count ≤ length (in_box bodies) → j < count → from % BODIES_PER_PAGE + j < BODIES_PER_PAGE
+      → from + count ≤ length (unescaped bodies) → j < count → from % BODIES_PER_PAGE + j < BODIES_PER_PAGE
       → HasBody bytes (from / BODIES_PER_PAGE) (from % BODIES_PER_PAGE + j) (slice_get (sorted_by by_key bodies) (from + j))
   has_body cells_shown bodies_shown from count j bytes shows lent within below on_page =
       let same : (from + j) / BODIES_PER_PAGE ≡ from / BODIES_PER_PAGE = omega arith in
@@ -152,8 +152,8 @@ module _ (params : Params) (tree : Tree) (files : ℕ → List ℕ) (bodies : Li
       (subst (λ i. HasBody bytes ((from + j) / BODIES_PER_PAGE) i (slice_get (sorted_by by_key bodies) (from + j))) index has)
 
   same_range : (cells_shown bodies_shown : ℕ → Option (List ℕ)) (from count here : ℕ) (bytes : List ℕ) → Pages cells_shown bodies_shown → Lent bodies_shown from bytes
-      → from + count ≤ length (in_box bodies) → here ≤ count → from % BODIES_PER_PAGE + here ≤ BODIES_PER_PAGE → from % BODIES_PER_PAGE + here ≤ page_count bytes
-      → take here (drop (from % BODIES_PER_PAGE) (bodies_of bytes)) ≡ range_of bodies from here
+      → from + count ≤ length (unescaped bodies) → here ≤ count → from % BODIES_PER_PAGE + here ≤ BODIES_PER_PAGE → from % BODIES_PER_PAGE + here ≤ record_count bytes
+      → take here (drop (from % BODIES_PER_PAGE) (bodies_of bytes)) ≡ bodies_from bodies from here
   same_range cells_shown bodies_shown from count here bytes shows lent within few on_page on_this =
       let order = sorted_by by_key bodies in
       let index = from % BODIES_PER_PAGE in
@@ -173,8 +173,8 @@ module _ (params : Params) (tree : Tree) (files : ℕ → List ℕ) (bodies : Li
 
   -- the terms of the page are those of the range
   pub page_range : (cells_shown bodies_shown : ℕ → Option (List ℕ)) (from count here : ℕ) (bytes : List ℕ) → Pages cells_shown bodies_shown → Lent bodies_shown from bytes
-      → from + count ≤ length (in_box bodies) → here ≤ count → from % BODIES_PER_PAGE + here ≤ BODIES_PER_PAGE → from % BODIES_PER_PAGE + here ≤ page_count bytes
-      → page_terms bytes (from % BODIES_PER_PAGE) (from % BODIES_PER_PAGE + here) ≡ body_terms (range_of bodies from here)
+      → from + count ≤ length (unescaped bodies) → here ≤ count → from % BODIES_PER_PAGE + here ≤ BODIES_PER_PAGE → from % BODIES_PER_PAGE + here ≤ record_count bytes
+      → page_terms bytes (from % BODIES_PER_PAGE) (from % BODIES_PER_PAGE + here) ≡ body_terms (bodies_from bodies from here)
   page_range cells_shown bodies_shown from count here bytes shows lent within few on_page on_this =
       let index = from % BODIES_PER_PAGE in
       let n : index + here - index ≡ here = omega arith in
@@ -182,73 +182,73 @@ module _ (params : Params) (tree : Tree) (files : ℕ → List ℕ) (bodies : Li
       ∙ ap body_terms (same_range cells_shown bodies_shown from count here bytes shows lent within few on_page on_this)
 
   -- the terms of the old items
-  range_along : (a : Tally) (from count here : ℕ) (more : List Item) → here ≤ count → remaining_terms (angle params a.target) params.leaf bodies more ≡ body_terms (range_of bodies (from + here) (count - here))
+  range_along : (a : Tally) (from count here : ℕ) (more : List Item) → here ≤ count → remaining_terms (angle params a.target) params.leaf bodies more ≡ body_terms (bodies_from bodies (from + here) (count - here))
       → remaining_terms (angle params a.target) params.leaf bodies (front ++ item.Bodies from count ∷ [])
-      ≡ body_terms (range_of bodies from here) ++ remaining_terms (angle params a.target) params.leaf bodies (front ++ more)
+      ≡ body_terms (bodies_from bodies from here) ++ remaining_terms (angle params a.target) params.leaf bodies (front ++ more)
   range_along a from count here more few left =
       let all : here + (count - here) ≡ count = omega arith in
-      among (angle params a.target) params.leaf bodies front more (item.Bodies from count) (body_terms (range_of bodies from here))
-      (ap (λ n. body_terms (range_of bodies from n)) (sym all)
+      among (angle params a.target) params.leaf bodies front more (item.Bodies from count) (body_terms (bodies_from bodies from here))
+      (ap (λ n. body_terms (bodies_from bodies from n)) (sym all)
       ∙ ap body_terms (range_add bodies from here (count - here))
-      ∙ map-append (λ b. term.Body b) (range_of bodies from here) (range_of bodies (from + here) (count - here))
-      ∙ ap (λ l. body_terms (range_of bodies from here) ++ l) (sym left))
+      ∙ map-append (λ b. term.Body b) (bodies_from bodies from here) (bodies_from bodies (from + here) (count - here))
+      ∙ ap (λ l. body_terms (bodies_from bodies from here) ++ l) (sym left))
 
   -- the bodies of a page, and more behind them
   pub takes_page : (from count here : ℕ) (new : List Item) (a b : Tally) → AreItemsOf params bodies tree file (front ++ item.Bodies from count ∷ [])
       → here < count → 1 ≤ here → from % BODIES_PER_PAGE + here ≡ BODIES_PER_PAGE → new ≡ front ++ item.Bodies (from + here) (count - here) ∷ []
-      → Adds params (body_terms (range_of bodies from here)) a b → Along (front ++ item.Bodies from count ∷ []) new a b
+      → Adds params (body_terms (bodies_from bodies from here)) a b → Along (front ++ item.Bodies from count ∷ []) new a b
   takes_page from count here new a b items more some to_end is added =
       let x = item.Bodies from count in
       let y = item.Bodies (from + here) (count - here) in
       let own = bodies_of_item (angle params a.target) params tree files bodies of_tree front from count items in
-      let one = sum_by-cons (item_left paged file tree params.leaf bodies) y [] in
+      let one = sum_by-cons (item_work paged file tree params.leaf bodies) y [] in
       let less = pages_less from count here more to_end in
       subst (λ l. Along (front ++ x ∷ []) l a b) (sym is)
       (record {
-        terms = body_terms (range_of bodies from here);
+        terms = body_terms (bodies_from bodies from here);
         added = added;
         items = All-push (IsItemOf params bodies tree file) front y (front_items (angle params a.target) params tree files bodies of_tree front x items) (omega arith, omega arith);
         along = range_along a from count here (y ∷ []) (omega arith) (remaining_one (angle params a.target) params.leaf bodies y);
         fewer = left_among paged file tree params bodies front (y ∷ []) x (omega arith);
       })
     where
-      pages_less : (from count here : ℕ) → here < count → from % BODIES_PER_PAGE + here ≡ BODIES_PER_PAGE → pages_of (from + here) (count - here) < pages_of from count
+      pages_less : (from count here : ℕ) → here < count → from % BODIES_PER_PAGE + here ≡ BODIES_PER_PAGE → pages_spanned (from + here) (count - here) < pages_spanned from count
       pages_less from count here more to_end =
           let left = pages_are (from + here) (count - here) (omega arith) in
           let all = pages_are from count (omega arith) in
           omega arith
         where
-          pages_are : (from count : ℕ) → 1 ≤ count → pages_of from count ≡ suc ((from + (count - 1)) / BODIES_PER_PAGE - from / BODIES_PER_PAGE)
+          pages_are : (from count : ℕ) → 1 ≤ count → pages_spanned from count ≡ suc ((from + (count - 1)) / BODIES_PER_PAGE - from / BODIES_PER_PAGE)
           pages_are from zero some = absurd (omega arith)
           pages_are from (suc n) some = let less : suc n - 1 ≡ n = omega arith in ap (λ k. suc ((from + k) / BODIES_PER_PAGE - from / BODIES_PER_PAGE)) (sym less)
 
   -- all that are left
   pub takes_rest : (from count here : ℕ) (a b : Tally) → AreItemsOf params bodies tree file (front ++ item.Bodies from count ∷ [])
-      → count ≤ here → here ≤ count → Adds params (body_terms (range_of bodies from here)) a b → Along (front ++ item.Bodies from count ∷ []) front a b
+      → count ≤ here → here ≤ count → Adds params (body_terms (bodies_from bodies from here)) a b → Along (front ++ item.Bodies from count ∷ []) front a b
   takes_rest from count here a b items low high added =
       let x = item.Bodies from count in
       let own = bodies_of_item (angle params a.target) params tree files bodies of_tree front from count items in
       let none : count - here ≡ 0 = omega arith in
-      let left : remaining_terms (angle params a.target) params.leaf bodies [] ≡ body_terms (range_of bodies (from + here) (count - here)) =
-      remaining-nil (angle params a.target) params.leaf bodies ∙ sym (ap (λ n. body_terms (range_of bodies (from + here) n)) none) in
+      let left : remaining_terms (angle params a.target) params.leaf bodies [] ≡ body_terms (bodies_from bodies (from + here) (count - here)) =
+      remaining-nil (angle params a.target) params.leaf bodies ∙ sym (ap (λ n. body_terms (bodies_from bodies (from + here) n)) none) in
       let less = left_among paged file tree params bodies front [] x (some_pages from count own.0) in
       record {
-        terms = body_terms (range_of bodies from here);
+        terms = body_terms (bodies_from bodies from here);
         added = added;
         items = front_items (angle params a.target) params tree files bodies of_tree front x items;
-        along = range_along a from count here [] high left ∙ ap (λ l. body_terms (range_of bodies from here) ++ remaining_terms (angle params a.target) params.leaf bodies l) (append-nil front);
+        along = range_along a from count here [] high left ∙ ap (λ l. body_terms (bodies_from bodies from here) ++ remaining_terms (angle params a.target) params.leaf bodies l) (append-nil front);
         fewer = subst (λ l. remaining_pages file tree params.leaf bodies l < remaining_pages file tree params.leaf bodies (front ++ x ∷ [])) (append-nil front) less;
       }
     where
-      some_pages : (from count : ℕ) → 1 ≤ count → 0 < pages_of from count
+      some_pages : (from count : ℕ) → 1 ≤ count → 0 < pages_spanned from count
       some_pages from zero some = absurd (omega arith)
       some_pages from (suc n) some = omega arith
 
-  pub range_heavy : (from count here : ℕ) (a : Tally) → here ≤ count → tree.mass < a.taken + sum_by term_mass (body_terms (range_of bodies from here))
+  pub range_heavy : (from count here : ℕ) (a : Tally) → here ≤ count → tree.mass < a.taken + sum_by term_mass (body_terms (bodies_from bodies from here))
       → tree.mass < a.taken + remaining_mass bodies (front ++ item.Bodies from count ∷ [])
   range_heavy from count here a few heavy =
       let y = item.Bodies (from + here) (count - here) in
-      too_heavy params bodies tree (front ++ item.Bodies from count ∷ []) (front ++ y ∷ []) a (body_terms (range_of bodies from here))
+      too_heavy params bodies tree (front ++ item.Bodies from count ∷ []) (front ++ y ∷ []) a (body_terms (bodies_from bodies from here))
       (range_along a from count here (y ∷ []) few (remaining_one (angle params a.target) params.leaf bodies y)) heavy
 
 -- ---- which page is wanted

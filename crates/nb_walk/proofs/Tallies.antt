@@ -16,7 +16,7 @@ use Rattle.nb_model.specs.Gravity.{pull}
 use Rattle.nb_model.proofs.Facts.{pull_bound}
 use Rattle.nb_key.specs.Morton.{key_at, morton_key, IsKeyAt}
 use Rattle.nb_key.proofs.Ranges.{held}
-use Rattle.nb_record.specs.Pages.{page_count}
+use Rattle.nb_record.specs.Pages.{record_count}
 use Rattle.nb_record.specs.Records.{body_record, body_of, bodies_of}
 use Rattle.nb_record.proofs.Callers.{body_at, plus-zero, plus_assoc}
 use Rattle.nb_walk.specs.declared.tally.Tally.{Tally}
@@ -132,7 +132,7 @@ no_bodies bytes from =
     let none : from - from ≡ 0 = omega arith in
     ap (λ n. body_terms (take n (drop from (bodies_of bytes)))) none
 
-pub next_body : (bytes : List ℕ) (from i : ℕ) (b : Body) → from ≤ i → i < page_count bytes → b ≡ body_of (body_record i bytes) → page_terms bytes from (i + 1) ≡ page_terms bytes from i ++ term.Body b ∷ []
+pub next_body : (bytes : List ℕ) (from i : ℕ) (b : Body) → from ≤ i → i < record_count bytes → b ≡ body_of (body_record i bytes) → page_terms bytes from (i + 1) ≡ page_terms bytes from i ++ term.Body b ∷ []
 next_body bytes from i b later within is =
     let bodies = bodies_of bytes in
     let more : i + 1 - from ≡ (i - from) + 1 = omega arith in

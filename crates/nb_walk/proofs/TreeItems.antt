@@ -8,7 +8,7 @@ use Rattle.std.proofs.lemmas.List.Sorted.{All-permutation}
 use Rattle.nb_model.specs.declared.body.Body.{Body}
 use Rattle.nb_model.specs.declared.params.Params.{Params}
 use Rattle.nb_model.specs.Gravity.{octants}
-use Rattle.nb_model.specs.Leapfrog.{in_box}
+use Rattle.nb_model.specs.Leapfrog.{unescaped}
 use Rattle.nb_record.specs.declared.cell.Cell.{Cell}
 use Rattle.nb_record.specs.declared.tree.Tree.{Tree}
 use Rattle.nb_record.specs.Cells.{tree_cells, in_cell, IsTreeCell}
@@ -46,16 +46,16 @@ module _ (params : Params) (bodies : List Body) (tree : Tree) (file : List ℕ) 
       All-contains (Contains chain) (filter test cells) cell
       (All-permutation (Contains chain) chain (filter test cells) (table.chains h (mod_below cell.key (2 ^ tree.bits) (pow_pos tree.bits))) (All-contains_itself chain)) chosen
 
-  pub cell_item : (level : ℕ) (cell : Cell) → IsTreeCell params (in_box bodies) level cell → IsCellItem params bodies tree file cell.key 0
+  pub cell_item : (level : ℕ) (cell : Cell) → IsTreeCell params (unescaped bodies) level cell → IsCellItem params bodies tree file cell.key 0
   cell_item level cell is =
       let its = level_is level cell.key is.key in
-      let at_level : IsTreeCell params (in_box bodies) (level_of cell.key) cell = subst (λ l. IsTreeCell params (in_box bodies) l cell) (sym its) is in
+      let at_level : IsTreeCell params (unescaped bodies) (level_of cell.key) cell = subst (λ l. IsTreeCell params (unescaped bodies) l cell) (sym its) is in
       record {
         cell = cell;
         key_is = refl;
         is = at_level;
         within = starts_within file tree.bits tree.pages cells table cell.key;
-        ahead = stands cell (found_in_tree params (in_box bodies) level cell is);
+        ahead = stands cell (found_in_tree params (unescaped bodies) level cell is);
         held = chain_holds file tree.bits tree.pages cells table (cell.key % 2 ^ tree.bits) (mod_below cell.key (2 ^ tree.bits) (pow_pos tree.bits));
       }
 
@@ -70,19 +70,19 @@ module _ (params : Params) (bodies : List Body) (tree : Tree) (file : List ℕ) 
   abbrev Is : Item → Type 0
   Is x = IsItemOf params bodies tree file x
 
-  one_kid : (level : ℕ) (cell : Cell) (octant : ℕ) → IsTreeCell params (in_box bodies) level cell → octant < 8 → All Is (cond (eqb (cell.kids / 2 ^ octant % 2) 1) (item.Cell (8 * cell.key + octant) 0 ∷ []) [])
+  one_kid : (level : ℕ) (cell : Cell) (octant : ℕ) → IsTreeCell params (unescaped bodies) level cell → octant < 8 → All Is (cond (eqb (cell.kids / 2 ^ octant % 2) 1) (item.Cell (8 * cell.key + octant) 0 ∷ []) [])
   one_kid level cell octant is below =
       let kid : List Item = item.Cell (8 * cell.key + octant) 0 ∷ [] in
       let test = eqb (cell.kids / 2 ^ octant % 2) 1 in
       elim (cases_eq (cell.kids / 2 ^ octant % 2) 1) [
         | inl set ↦
-            let found = (kid_of_tree params (in_box bodies) level cell octant is below).0 set in
+            let found = (kid_of_tree params (unescaped bodies) level cell octant is below).0 set in
             let there : IsCellItem params bodies tree file (8 * cell.key + octant) 0 = subst (λ k. IsCellItem params bodies tree file k 0) found.1.1 (cell_item (level + 1) found.0 found.1.0) in
             subst (All Is) (sym (cond-true test kid [] (eq-eqb (cell.kids / 2 ^ octant % 2) 1 set))) (All-cons Is (item.Cell (8 * cell.key + octant) 0) [] (inr there) (All-nil Is))
         | inr unset ↦ subst (All Is) (sym (cond-false test kid [] (ne_eqb (cell.kids / 2 ^ octant % 2) 1 unset))) (All-nil Is)
       ]
 
-  kids_items : (level : ℕ) (cell : Cell) (os : List ℕ) → IsTreeCell params (in_box bodies) level cell → Below os → All Is (kid_items cell.key cell.kids os)
+  kids_items : (level : ℕ) (cell : Cell) (os : List ℕ) → IsTreeCell params (unescaped bodies) level cell → Below os → All Is (kid_items cell.key cell.kids os)
   kids_items level cell [] is below = subst (All Is) (sym (no_kids cell.key cell.kids)) (All-nil Is)
   kids_items level cell (o ∷ os) is below =
       subst (All Is) (sym (kids_cons cell.key cell.kids o os))
@@ -93,12 +93,12 @@ module _ (params : Params) (bodies : List Body) (tree : Tree) (file : List ℕ) 
   some_length [] some = absurd (some refl)
   some_length (b ∷ bs) some = omega arith
 
-  pub opened_are : (level : ℕ) (cell : Cell) → IsTreeCell params (in_box bodies) level cell → AreItemsOf params bodies tree file (opened_items cell)
+  pub opened_are : (level : ℕ) (cell : Cell) → IsTreeCell params (unescaped bodies) level cell → AreItemsOf params bodies tree file (opened_items cell)
   opened_are level cell is =
       let leaf : List Item = item.Bodies cell.first cell.count ∷ [] in
       elim (cases_eq cell.kids 0) [
         | inl none ↦
-            let some : 1 ≤ cell.count = omega (arith, is.count, some_length (in_cell level cell.key (in_box bodies)) is.some) in
+            let some : 1 ≤ cell.count = omega (arith, is.count, some_length (in_cell level cell.key (unescaped bodies)) is.some) in
             subst (All Is) (sym (cond-true (eqb cell.kids 0) leaf (kid_items cell.key cell.kids octants) (eq-eqb cell.kids 0 none)))
             (All-cons Is (item.Bodies cell.first cell.count) [] (some, cell_within params bodies level cell is) (All-nil Is))
         | inr some ↦
@@ -108,9 +108,9 @@ module _ (params : Params) (bodies : List Body) (tree : Tree) (file : List ℕ) 
 
   -- a new walk's
   pub root_is_item : IsItemOf params bodies tree file (item.Cell 1 0)
-  root_is_item = root (in_box bodies) refl where
-    root : (all : List Body) → all ≡ in_box bodies → IsItemOf params bodies tree file (item.Cell 1 0)
+  root_is_item = root (unescaped bodies) refl where
+    root : (all : List Body) → all ≡ unescaped bodies → IsItemOf params bodies tree file (item.Cell 1 0)
     root [] none = inl (refl, refl, sym none)
     root (b ∷ bs) some =
-        let found = root_of_tree params (in_box bodies) (λ none. let no = some ∙ none in cc) in
+        let found = root_of_tree params (unescaped bodies) (λ none. let no = some ∙ none in cc) in
         inr (subst (λ k. IsCellItem params bodies tree file k 0) found.1.1 (cell_item 0 found.0 found.1.0))

@@ -9,9 +9,9 @@ use Rattle.std.proofs.lemmas.Option.{slice_get-get_or, slice_get_within, get_or_
 use Rattle.nb_walk.specs.declared.group.Own.{Own}
 use Rattle.nb_walk.specs.declared.item.Item.{Item}
 use Rattle.nb_walk.specs.declared.shared.SharedItem.{SharedItem}
-use Rattle.nb_walk.specs.Group.{own_items, IsGiven, HasNeed}
+use Rattle.nb_walk.specs.Group.{own_items, MayBeGiven, HasNeed}
 use Rattle.nb_walk.specs.Items.{last_item}
-use Rattle.nb_walk.specs.Room.{HasRoom, IsSmall}
+use Rattle.nb_walk.specs.Room.{HasRoom, IsItemInRange}
 use Rattle.nb_walk.specs.Running.{Each, EachAt}
 use Rattle.nb_walk.specs.Shared.{is_left_to, items_of}
 use Rattle.nb_walk.proofs.Runs.{SameFrom}
@@ -82,7 +82,7 @@ none_left i (e ∷ es) none =
 -- the walks below i wait, where they have a shared item left, and the others are as they were
 pub record WaitsTo (es : List SharedItem) (old now : List Own) (i : ℕ) : Type 0 where
   pub count : length now ≡ length old
-  pub given : EachAt (λ k. IsGiven es k) (length old) old now
+  pub given : EachAt (λ k. MayBeGiven es k) (length old) old now
   pub none : (k : ℕ) (d : Own) → k < i → (get_or now k d).need ≡ None → items_of k es ≡ []
   pub same : SameFrom i old now
 
@@ -94,7 +94,7 @@ last_cases (x ∷ xs) =
     let last = length (x ∷ xs) - 1 in
     inr (get_or (x ∷ xs) last x, (λ none. (cc)), slice_get-get_or (x ∷ xs) last x (omega arith))
 
-pub has_need : (i : ℕ) (es : List SharedItem) (a b c : Own) → b.items ≡ a.items → b.need ≡ last_item (own_items a) → IsGiven es i b c → (c.need ≡ None → items_of i es ≡ []) → HasNeed i es c
+pub has_need : (i : ℕ) (es : List SharedItem) (a b c : Own) → b.items ≡ a.items → b.need ≡ last_item (own_items a) → MayBeGiven es i b c → (c.need ≡ None → items_of i es ≡ []) → HasNeed i es c
 has_need i es a b c same asks given none = record {
   next = λ x is. elim (last_cases (own_items c)) [
     | inl empty ↦ record { last = λ some. absurd (some empty.0); shared = λ all. given.given x (waits ∙ empty.1) is }
@@ -115,13 +115,13 @@ pub all_behind : (P : SharedItem → Type 0) (xs ys : List SharedItem) → All P
 all_behind P xs ys all k d below = All-contains P (xs ++ ys) (get_or ys k d) all (Contains-append_right xs ys (get_or ys k d) (All-contains_itself ys k d below))
 
 -- what a walk needs is small
-pub small_need : (i : ℕ) (es : List SharedItem) (o : Own) (x : Item) → HasNeed i es o → All IsSmall (own_items o) → All (λ e. IsSmall e.item) es → o.need ≡ Some x → IsSmall x
+pub small_need : (i : ℕ) (es : List SharedItem) (o : Own) (x : Item) → HasNeed i es o → All IsItemInRange (own_items o) → All (λ e. IsItemInRange e.item) es → o.need ≡ Some x → IsItemInRange x
 small_need i es o x has own shared is = elim (last_cases (own_items o)) [
   | inl empty ↦
       let at = entry_of i es x ((has.next x is).shared empty.0) in
-      subst IsSmall at.is (All-contains (λ e. IsSmall e.item) es at.entry shared at.there)
+      subst IsItemInRange at.is (All-contains (λ e. IsItemInRange e.item) es at.entry shared at.there)
   | inr some ↦
       let at = length (own_items o) - 1 in
       let last : last_item (own_items o) ≡ Some x = (has.next x is).last some.1 in
-      All-contains IsSmall (own_items o) x own (at, slice_get_within (own_items o) at x last, get_or_from_slice_get (own_items o) at x x last)
+      All-contains IsItemInRange (own_items o) x own (at, slice_get_within (own_items o) at x last, get_or_from_slice_get (own_items o) at x x last)
 ]

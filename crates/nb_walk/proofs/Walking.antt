@@ -6,7 +6,7 @@ use Rattle.std.proofs.lemmas.List.Sums.{sum_by-append, sum_by-cons}
 use Rattle.std.proofs.lemmas.List.Elements.{All-nil}
 use Rattle.nb_model.specs.declared.body.Body.{Body}
 use Rattle.nb_model.specs.declared.params.Params.{Params}
-use Rattle.nb_model.specs.Leapfrog.{in_box}
+use Rattle.nb_model.specs.Leapfrog.{unescaped}
 use Rattle.nb_model.specs.Gravity.{force_on}
 use Rattle.nb_model.specs.Valid.{IsInBox}
 use Rattle.nb_model.specs.Vector.{plus}
@@ -22,7 +22,7 @@ use Rattle.nb_walk.specs.Items.{last_item, remaining_terms, remaining_force}
 use Rattle.nb_walk.specs.Left.{IsItemOf, AreItemsOf, step_bound, item_bound, remaining_pages}
 use Rattle.nb_walk.specs.Shown.{next_item, shown_for, WaitsFor}
 use Rattle.nb_walk.specs.Taking.{TakesAlong, TakesOver}
-use Rattle.nb_walk.specs.Walk.{WalkValue, IsInRange, IsWithin, IsWalkOn, Lowers, IsSound, OnTree, VisitsTree, IsBlocked, CanVisit, RunsTree}
+use Rattle.nb_walk.specs.Walk.{WalkValue, IsSumInRange, IsWithin, IsWalkOn, Lowers, IsUndamaged, OnTree, VisitsTree, IsBlocked, CanVisit, RunsTree}
 use Rattle.nb_walk.proofs.Courses.{empty_list}
 use Rattle.nb_walk.proofs.Lefts.{bound_some}
 use Rattle.nb_walk.proofs.Pulling.{angle, pulls-append}
@@ -62,7 +62,7 @@ module _ (params : Params) (bodies : List Body) (tree : Tree) (file : List ℕ) 
             ∙ plus_assoc a.sum (pulls params p t.terms) (remaining_force params bodies p new)
             ∙ ap (plus a.sum) (sym (left_is a b old new within on.items t))
             ∙ on.sum
-            ∙ ap (λ q. force_on params q 0 (in_box bodies)) (sym t.added.target);
+            ∙ ap (λ q. force_on params q 0 (unescaped bodies)) (sym t.added.target);
         mass = omega arith;
         items = t.items;
       }
@@ -103,20 +103,20 @@ module _ (cells bodies_shown : ℕ → Option (List ℕ)) (params : Params) (tre
   -- a walk after some visits that all went on
   pub record Ran (old new : WalkValue) : Type 0 where
     pub target : new.target ≡ old.target
-    pub range : IsInRange params new
+    pub range : IsSumInRange params new
     pub within : IsWithin tree.mass old → IsWithin tree.mass new
     pub moved : (new ≡ old) ⊎ (step_bound tree new.items < step_bound tree old.items)
     pub over : OnTree params tree cells bodies_shown old
         (λ bodies file. IsWalkOn params bodies tree file new × ((new ≡ old) ⊎ (remaining_pages file tree params.leaf bodies new.items < remaining_pages file tree params.leaf bodies old.items)))
 
-  pub ran_none : (w : WalkValue) → IsInRange params w → Ran w w
+  pub ran_none : (w : WalkValue) → IsSumInRange params w → Ran w w
   ran_none w range = record { target = refl; range = range; within = λ few. few; moved = inl refl; over = λ files bodies of_tree shows on. (on, inl refl) }
 
   still_less : (f : WalkValue → ℕ) (old mid new : WalkValue) → (mid ≡ old) ⊎ (f mid < f old) → f new < f mid → f new < f old
   still_less f old mid new (inl same) less = subst (λ w. f new < f w) same less
   still_less f old mid new (inr lower) less = omega arith
 
-  pub ran_more : (old mid new : WalkValue) (result : Visit) → result ≡ visit.Moved → Ran old mid → new.target ≡ mid.target → IsInRange params new → (IsWithin tree.mass mid → IsWithin tree.mass new) → Lowers result (step_bound tree mid.items) (step_bound tree new.items)
+  pub ran_more : (old mid new : WalkValue) (result : Visit) → result ≡ visit.Moved → Ran old mid → new.target ≡ mid.target → IsSumInRange params new → (IsWithin tree.mass mid → IsWithin tree.mass new) → Lowers result (step_bound tree mid.items) (step_bound tree new.items)
       → OnTree params tree cells bodies_shown mid (λ bodies file. VisitsTree params bodies tree file mid new result) → Ran old new
   ran_more old mid new result is ran target range within lower over = record {
     target = target ∙ ran.target;
@@ -198,7 +198,7 @@ module _ (cells bodies_shown : ℕ → Option (List ℕ)) (params : Params) (tre
         left = omega arith;
         lower = λ some can. elim before.1 [
           | inl same ↦
-              let count : tree.count ≢ 0 = λ e. some (empty_list (in_box bodies) (sym of_tree.count ∙ e)) in
+              let count : tree.count ≢ 0 = λ e. some (empty_list (unescaped bodies) (sym of_tree.count ∙ e)) in
               let next : next_item tree old.items ≡ Some can.item = cond-false (eqb tree.count 0) None (last_item old.items) (ne_eqb tree.count 0 count) ∙ can.last in
               let nothing = subst (λ w. next_item tree w.items ≡ None) same over_ in
               absurd (let both = sym nothing ∙ next in cc)
@@ -214,4 +214,4 @@ module _ (cells bodies_shown : ℕ → Option (List ℕ)) (params : Params) (tre
   damaged_over old mid new result name is ran over = λ files bodies of_tree shows on.
       let before = ran.over files bodies of_tree shows on in
       let after = over files bodies of_tree shows before.0 in
-      absurd (subst IsSound is after.sound)
+      absurd (subst IsUndamaged is after.sound)

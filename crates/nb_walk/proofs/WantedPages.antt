@@ -4,7 +4,7 @@ use Rattle.std.specs.Prelude.{All, Contains}
 use Rattle.std.proofs.lemmas.List.Elements.{All-map, All-contains, All-contains_itself}
 use Rattle.nb_model.specs.declared.body.Body.{Body}
 use Rattle.nb_model.specs.declared.params.Params.{Params}
-use Rattle.nb_model.specs.Leapfrog.{in_box}
+use Rattle.nb_model.specs.Leapfrog.{unescaped}
 use Rattle.nb_model.proofs.Facts.{length-filter-le}
 use Rattle.nb_host.specs.declared.page_name.PageName.{PageName}
 use Rattle.nb_host.specs.Page.{HasPage}
@@ -28,7 +28,7 @@ module _ (params : Params) (bodies : List Body) (tree : Tree) (files : ℕ → L
   cell_page : (page : ℕ) → page < tree.pages → HasPage (files tree.cells) page
   cell_page page below = omega (arith, of_tree.table.whole)
 
-  body_page : (from : ℕ) → from < length (in_box bodies) → HasPage (files tree.bodies) (from / BODIES_PER_PAGE)
+  body_page : (from : ℕ) → from < length (unescaped bodies) → HasPage (files tree.bodies) (from / BODIES_PER_PAGE)
   body_page from below =
       let most = length-filter-le (λ (b : Body). not b.out) bodies in
       let long = length-sorted_by by_key bodies in

@@ -11,39 +11,39 @@ use Rattle.nb_model.specs.declared.body.Body.{Body}
 use Rattle.nb_model.specs.declared.params.Params.{Params}
 use Rattle.nb_model.specs.Octree.{in_octant, total_mass, centre_of_mass}
 use Rattle.nb_model.specs.Gravity.{octants}
-use Rattle.nb_model.specs.Leapfrog.{in_box}
+use Rattle.nb_model.specs.Leapfrog.{unescaped}
 use Rattle.nb_key.specs.Morton.{key_at}
 use Rattle.nb_record.specs.declared.cell.Cell.{Cell}
 use Rattle.nb_record.specs.Order.{by_key, sorted_by, IsSortedByRank}
 use Rattle.nb_record.specs.Cells.{in_cell, IsTreeCell}
-use Rattle.nb_record.proofs.Callers.{permuted, only, length-sorted_by, in_box_sorted, Ordered, all_before, neighbours, ordered_filtered, IsPermutation-filter, octant_of_cell, leaf_by_kids, divided_by_kids, in_root, empty_octant, cell_read}
+use Rattle.nb_record.proofs.Callers.{permuted, only, length-sorted_by, unescaped_sorted, Ordered, all_before, neighbours, ordered_filtered, IsPermutation-filter, octant_of_cell, leaf_by_kids, divided_by_kids, in_root, empty_octant, cell_read}
 use Rattle.nb_walk.specs.declared.item.Item.{Item}
 use Rattle.nb_walk.specs.declared.item.Item.TheVariants as item
 use Rattle.nb_walk.specs.declared.term.Term.{Term}
 use Rattle.nb_walk.specs.declared.term.Term.TheVariants as term
 use Rattle.nb_walk.specs.Angle.{level_of}
 use Rattle.nb_walk.specs.Terms.{Acceptance, body_terms, cell_terms, terms_to_depth}
-use Rattle.nb_walk.specs.Items.{in_order, range_of, bodies_under, item_terms, remaining_terms}
+use Rattle.nb_walk.specs.Items.{in_order, bodies_from, bodies_under, item_terms, remaining_terms}
 use Rattle.nb_walk.specs.Looks.{kid_items, opened_items}
 use Rattle.nb_walk.proofs.KeyLevels.{child_level, root_level}
 
 -- ---- the bodies of a cell, in Morton order
 
 -- what a test chooses of the ordered bodies is what it chooses, ordered
-chosen : (p : Body → Bool) (bodies : List Body) → IsSortedByRank by_key (sorted_by by_key bodies) → filter p (in_order bodies) ≡ sorted_by by_key (filter p (in_box bodies))
+chosen : (p : Body → Bool) (bodies : List Body) → IsSortedByRank by_key (sorted_by by_key bodies) → filter p (in_order bodies) ≡ sorted_by by_key (filter p (unescaped bodies))
 chosen p bodies distinct =
     let order = sorted_by by_key bodies in
     let inside = λ (b : Body). not b.out in
-    let kept : Ordered by_key (filter p (in_box order)) = ordered_filtered by_key p (in_box order) (ordered_filtered by_key inside order (all_before by_key order distinct)) in
-    let there : Ordered by_key (filter p (in_order bodies)) = subst (λ l. Ordered by_key (filter p l)) (in_box_sorted bodies) kept in
-    only by_key (filter p (in_box bodies)) (filter p (in_order bodies)) (IsPermutation-filter p (in_box bodies) (in_order bodies) (permuted by_key (in_box bodies)))
+    let kept : Ordered by_key (filter p (unescaped order)) = ordered_filtered by_key p (unescaped order) (ordered_filtered by_key inside order (all_before by_key order distinct)) in
+    let there : Ordered by_key (filter p (in_order bodies)) = subst (λ l. Ordered by_key (filter p l)) (unescaped_sorted bodies) kept in
+    only by_key (filter p (unescaped bodies)) (filter p (in_order bodies)) (IsPermutation-filter p (unescaped bodies) (in_order bodies) (permuted by_key (unescaped bodies)))
     (neighbours by_key (filter p (in_order bodies)) there)
 
-pub under_order : (level key : ℕ) (bodies : List Body) → IsSortedByRank by_key (sorted_by by_key bodies) → in_cell level key (in_order bodies) ≡ sorted_by by_key (in_cell level key (in_box bodies))
+pub under_order : (level key : ℕ) (bodies : List Body) → IsSortedByRank by_key (sorted_by by_key bodies) → in_cell level key (in_order bodies) ≡ sorted_by by_key (in_cell level key (unescaped bodies))
 under_order level key bodies distinct = chosen (λ b. eqb (key_at level b.at) key) bodies distinct
 
-pub under_permuted : (level key : ℕ) (bodies : List Body) → IsPermutation (in_cell level key (in_box bodies)) (in_cell level key (in_order bodies))
-under_permuted level key bodies = IsPermutation-filter (λ b. eqb (key_at level b.at) key) (in_box bodies) (in_order bodies) (permuted by_key (in_box bodies))
+pub under_permuted : (level key : ℕ) (bodies : List Body) → IsPermutation (in_cell level key (unescaped bodies)) (in_cell level key (in_order bodies))
+under_permuted level key bodies = IsPermutation-filter (λ b. eqb (key_at level b.at) key) (unescaped bodies) (in_order bodies) (permuted by_key (unescaped bodies))
 
 same_mass : (xs ys : List Body) → IsPermutation xs ys → total_mass ys ≡ total_mass xs
 same_mass xs ys is = sum_by-IsPermutation (λ b. b.mass) xs ys is
@@ -166,7 +166,7 @@ octants_below = (omega arith, (omega arith, (omega arith, (omega arith, (omega a
 
 pub record AtCell (params : Params) (bodies : List Body) (cell : Cell) : Type 0 where
   pub distinct : IsSortedByRank by_key (sorted_by by_key bodies)
-  pub is : IsTreeCell params (in_box bodies) (level_of cell.key) cell
+  pub is : IsTreeCell params (unescaped bodies) (level_of cell.key) cell
 
 some_as : (xs ys : List Body) → length ys ≡ length xs → xs ≢ [] → ys ≢ []
 some_as [] ys same some = absurd (some refl)
@@ -181,17 +181,17 @@ module _ (params : Params) (bodies : List Body) where
   abbrev own : Cell → List Body
   own cell = bodies_under cell.key (in_order bodies)
 
-  own_length : (level key : ℕ) → IsSortedByRank by_key (sorted_by by_key bodies) → length (in_cell level key (in_order bodies)) ≡ length (in_cell level key (in_box bodies))
-  own_length level key distinct = ap length (under_order level key bodies distinct) ∙ length-sorted_by by_key (in_cell level key (in_box bodies))
+  own_length : (level key : ℕ) → IsSortedByRank by_key (sorted_by by_key bodies) → length (in_cell level key (in_order bodies)) ≡ length (in_cell level key (unescaped bodies))
+  own_length level key distinct = ap length (under_order level key bodies distinct) ∙ length-sorted_by by_key (in_cell level key (unescaped bodies))
 
   own_some : (cell : Cell) → AtCell params bodies cell → own cell ≢ []
-  own_some cell at = some_as (in_cell (level_of cell.key) cell.key (in_box bodies)) (own cell) (own_length (level_of cell.key) cell.key at.distinct) at.is.some
+  own_some cell at = some_as (in_cell (level_of cell.key) cell.key (unescaped bodies)) (own cell) (own_length (level_of cell.key) cell.key at.distinct) at.is.some
 
   own_mass : (cell : Cell) → AtCell params bodies cell → total_mass (own cell) ≡ cell.mass
-  own_mass cell at = same_mass (in_cell (level_of cell.key) cell.key (in_box bodies)) (own cell) (under_permuted (level_of cell.key) cell.key bodies) ∙ sym at.is.mass
+  own_mass cell at = same_mass (in_cell (level_of cell.key) cell.key (unescaped bodies)) (own cell) (under_permuted (level_of cell.key) cell.key bodies) ∙ sym at.is.mass
 
   own_centre : (cell : Cell) → AtCell params bodies cell → centre_of_mass (own cell) ≡ cell.centre
-  own_centre cell at = same_centre (in_cell (level_of cell.key) cell.key (in_box bodies)) (own cell) (under_permuted (level_of cell.key) cell.key bodies) ∙ sym at.is.centre
+  own_centre cell at = same_centre (in_cell (level_of cell.key) cell.key (unescaped bodies)) (own cell) (under_permuted (level_of cell.key) cell.key bodies) ∙ sym at.is.centre
 
   own_read : (cell : Cell) → AtCell params bodies cell → own cell ≡ take cell.count (drop cell.first (sorted_by by_key bodies))
   own_read cell at = under_order (level_of cell.key) cell.key bodies at.distinct ∙ sym (cell_read params bodies (level_of cell.key) cell at.is)
@@ -208,7 +208,7 @@ module _ (params : Params) (bodies : List Body) where
 
     leaf_terms : w cell.key cell.mass cell.centre ≡ false → cell.kids ≡ 0 → terms_to_depth w params.leaf (21 - level_of cell.key) cell.key (own cell) ≡ body_terms (own cell)
     leaf_terms is none =
-        elim (leaf_by_kids params (in_box bodies) (level_of cell.key) cell at.is none) [
+        elim (leaf_by_kids params (unescaped bodies) (level_of cell.key) cell at.is none) [
           | inl few ↦ terms_leaf w params.leaf (21 - level_of cell.key) cell.key (own cell) (own_some cell at) (answer false is) (omega (arith, own_length (level_of cell.key) cell.key at.distinct, few))
           | inr deep ↦
               let zero_left : 21 - level_of cell.key ≡ 0 = omega arith in
@@ -240,8 +240,8 @@ module _ (params : Params) (bodies : List Body) where
               ∙ ap (λ d. terms_to_depth w params.leaf d key (bodies_under key (in_order bodies))) (sym depth)
               ∙ sym (ap (remaining_terms w params.leaf bodies) (cond-true test kid [] (eq-eqb (cell.kids / 2 ^ octant % 2) 1 set)) ∙ remaining_one w params.leaf bodies (item.Cell key 0))
           | inr unset ↦
-              let none = none_as (in_cell (level + 1) key (in_box bodies)) (in_cell (level + 1) key (in_order bodies)) (own_length (level + 1) key at.distinct)
-              (empty_octant params (in_box bodies) level cell octant at.is below some unset) in
+              let none = none_as (in_cell (level + 1) key (unescaped bodies)) (in_cell (level + 1) key (in_order bodies)) (own_length (level + 1) key at.distinct)
+              (empty_octant params (unescaped bodies) level cell octant at.is below some unset) in
               ap (terms_to_depth w params.leaf (20 - level) key) none
               ∙ terms_none w params.leaf (20 - level) key
               ∙ sym (ap (remaining_terms w params.leaf bodies) (cond-false test kid [] (ne_eqb (cell.kids / 2 ^ octant % 2) 1 unset)) ∙ remaining-nil w params.leaf bodies)
@@ -251,7 +251,7 @@ module _ (params : Params) (bodies : List Body) where
     unfolding part_terms
     way_parts is some page =
         let level = level_of cell.key in
-        let divided = divided_by_kids params (in_box bodies) level cell at.is some in
+        let divided = divided_by_kids params (unescaped bodies) level cell at.is some in
         let above = divided.above in
         let depth : 21 - level ≡ suc (20 - level) = omega arith in
         let back : 21 - 1 - (20 - level) ≡ level = omega arith in
@@ -279,7 +279,7 @@ root_terms w leaf bodies =
 
 -- ---- the bodies of a leaf
 
-pub range_add : (bodies : List Body) (from n m : ℕ) → range_of bodies from (n + m) ≡ range_of bodies from n ++ range_of bodies (from + n) m
+pub range_add : (bodies : List Body) (from n m : ℕ) → bodies_from bodies from (n + m) ≡ bodies_from bodies from n ++ bodies_from bodies (from + n) m
 range_add bodies from n m =
     let order = sorted_by by_key bodies in
     take-add n m (drop from order) ∙ ap (λ l. take n (drop from order) ++ take m l) (drop-drop n from order ∙ ap (λ k. drop k order) (omega arith))
@@ -292,7 +292,7 @@ read_one (x ∷ xs) (suc i) b is = read_one xs i b is
 pub way_body : (w : Acceptance) (leaf : ℕ) (bodies : List Body) (from count more : ℕ) (b : Body) → slice_get (sorted_by by_key bodies) from ≡ Some b → count ≡ 1 + more
     → item_terms w leaf bodies (item.Bodies from count) ≡ term.Body b ∷ item_terms w leaf bodies (item.Bodies (from + 1) more)
 way_body w leaf bodies from count more b is counts =
-    ap (λ n. body_terms (range_of bodies from n)) counts
+    ap (λ n. body_terms (bodies_from bodies from n)) counts
     ∙ ap body_terms (range_add bodies from 1 more)
-    ∙ map-append (λ b. term.Body b) (range_of bodies from 1) (range_of bodies (from + 1) more)
-    ∙ ap (λ l. body_terms l ++ body_terms (range_of bodies (from + 1) more)) (read_one (sorted_by by_key bodies) from b is)
+    ∙ map-append (λ b. term.Body b) (bodies_from bodies from 1) (bodies_from bodies (from + 1) more)
+    ∙ ap (λ l. body_terms l ++ body_terms (bodies_from bodies (from + 1) more)) (read_one (sorted_by by_key bodies) from b is)

@@ -39,27 +39,27 @@ IsStill step.Finished = ⊤
 IsStill (step.Damaged name) = ⊥
 
 -- a term that is handed out has its numbers in their ranges
-abbrev pub IsFormed : Step → Type 0
-IsFormed (step.Term (term.Cell mass centre)) = (1 ≤ mass) × IsInBox centre
-IsFormed (step.Term (term.Body b)) = IsValidBody b
-IsFormed step.Moved = ⊤
-IsFormed (step.Wants name) = ⊤
-IsFormed step.Finished = ⊤
-IsFormed (step.Damaged name) = ⊤
+abbrev pub IsTermInRange : Step → Type 0
+IsTermInRange (step.Term (term.Cell mass centre)) = (1 ≤ mass) × IsInBox centre
+IsTermInRange (step.Term (term.Body b)) = IsValidBody b
+IsTermInRange step.Moved = ⊤
+IsTermInRange (step.Wants name) = ⊤
+IsTermInRange step.Finished = ⊤
+IsTermInRange (step.Damaged name) = ⊤
 
 -- What a step does of the terms that are to come: it hands out the first, or none. Each Term or Moved lowers what is to be
 -- done, a finished course has no terms to come, and over a tree no step finds damage.
-abbrev pub GoesOn : (List Item → List Term) → (List Item → ℕ) → List Item → List Item → Step → Type 0
-GoesOn terms steps old new (step.Term term) = (terms old ≡ term ∷ terms new) × (steps new < steps old)
-GoesOn terms steps old new step.Moved = (terms old ≡ terms new) × (steps new < steps old)
-GoesOn terms steps old new (step.Wants name) = new ≡ old
-GoesOn terms steps old new step.Finished = (terms old ≡ []) × (new ≡ old)
-GoesOn terms steps old new (step.Damaged name) = ⊥
+abbrev pub TakesStep : (List Item → List Term) → (List Item → ℕ) → List Item → List Item → Step → Type 0
+TakesStep terms steps old new (step.Term term) = (terms old ≡ term ∷ terms new) × (steps new < steps old)
+TakesStep terms steps old new step.Moved = (terms old ≡ terms new) × (steps new < steps old)
+TakesStep terms steps old new (step.Wants name) = new ≡ old
+TakesStep terms steps old new step.Finished = (terms old ≡ []) × (new ≡ old)
+TakesStep terms steps old new (step.Damaged name) = ⊥
 
 -- Over the tree of these bodies, where only pages of its files are shown, a course goes along the interaction list.
 pub record StepsAlong (accepts : Acceptance) (params : Params) (tree : Tree) (files : ℕ → List ℕ) (bodies : List Body) (old new : List Item) (result : Step) : Type 0 where
   pub items : AreItemsOf params bodies tree (files tree.cells) new
-  pub terms : GoesOn (remaining_terms accepts params.leaf bodies) (remaining_steps (files tree.cells) tree params.leaf bodies) old new result
+  pub terms : TakesStep (remaining_terms accepts params.leaf bodies) (remaining_steps (files tree.cells) tree params.leaf bodies) old new result
 
 abbrev pub OverTree : Acceptance → Params → Tree → (cells bodies : ℕ → Option (List ℕ)) → List Item → List Item → Step → Type 0
 OverTree accepts params tree cells_shown bodies_shown old new result =

@@ -19,7 +19,7 @@ use Rattle.nb_walk.specs.Items.{last_item, page_for}
 use Rattle.nb_walk.specs.Left.{item_bound}
 use Rattle.nb_walk.specs.Part.{IsTally}
 use Rattle.nb_walk.specs.Pool.{PooledWalk}
-use Rattle.nb_walk.specs.Room.{HasRoom, IsSmall}
+use Rattle.nb_walk.specs.Room.{HasRoom, IsItemInRange}
 use Rattle.nb_walk.specs.Running.{HasRun, Each}
 use Rattle.nb_walk.specs.Shared.{is_left_to, items_of, IsShared}
 use Rattle.nb_walk.specs.Shown.{shown_for}
@@ -74,7 +74,7 @@ pub record IsGroup (g : Group) : Type 0 where
   pub owns : length g.owns.items ≡ length g.tallies.items
   pub tallies : All IsOwnTally g.tallies.items
   pub rooms : All (λ o. HasRoom (own_items o)) g.owns.items
-  pub small : All (λ e. IsSmall e.item) (all_shared g)
+  pub small : All (λ e. IsItemInRange e.item) (all_shared g)
   pub shared : All (IsShared (length g.tallies.items)) (all_shared g)
   pub few : length (all_shared g) ≤ g.room
   pub items : g.room ≤ vec_capacity g.items
@@ -185,7 +185,7 @@ pub record SharesOut (x : Item) (has others : Bool) (old new : Own) : Type 0 whe
 -- ---- where walks wait
 
 -- a walk that waits nowhere may be given one of these items that is left to it, and nothing else changes
-pub record IsGiven (entries : List SharedItem) (i : ℕ) (old new : Own) : Type 0 where
+pub record MayBeGiven (entries : List SharedItem) (i : ℕ) (old new : Own) : Type 0 where
   pub items : new.items ≡ old.items
   pub kept : (x : Item) → old.need ≡ Some x → new.need ≡ Some x
   pub given : (x : Item) → old.need ≡ None → new.need ≡ Some x → Contains (items_of i entries) x

@@ -9,7 +9,7 @@ use Rattle.nb_model.specs.Limits.{deepest_level}
 use Rattle.nb_model.specs.Vector.{vector_sum}
 use Rattle.nb_model.specs.Octree.{total_mass}
 use Rattle.nb_model.specs.Gravity.{direct_sum, force_on}
-use Rattle.nb_model.specs.Leapfrog.{in_box}
+use Rattle.nb_model.specs.Leapfrog.{unescaped}
 use Rattle.nb_host.specs.declared.page_name.PageName.{PageName}
 use Rattle.nb_record.specs.declared.sizes.TheConstants.{BODIES_PER_PAGE}
 use Rattle.nb_record.specs.declared.tree.Tree.{Tree}
@@ -21,13 +21,13 @@ use Rattle.nb_walk.specs.declared.term.Term.{Term}
 use Rattle.nb_walk.specs.Angle.{level_of}
 use Rattle.nb_walk.specs.Terms.{Acceptance, body_terms, terms_to_depth}
 
--- the bodies in the box in Morton order, as they stand at the front of the file of bodies
+-- the unescaped bodies in Morton order, as they stand at the front of the file of bodies
 abbrev pub in_order : List Body → List Body
-in_order bodies = sorted_by by_key (in_box bodies)
+in_order bodies = sorted_by by_key (unescaped bodies)
 
 -- so many bodies from a number on, of all in Morton order
-abbrev pub range_of : List Body → ℕ → ℕ → List Body
-range_of bodies from count = take count (drop from (sorted_by by_key bodies))
+abbrev pub bodies_from : List Body → ℕ → ℕ → List Body
+bodies_from bodies from count = take count (drop from (sorted_by by_key bodies))
 
 -- the bodies of the cell with this key
 abbrev pub bodies_under : ℕ → List Body → List Body
@@ -35,15 +35,15 @@ bodies_under key bodies = in_cell (level_of key) key bodies
 
 -- the bodies of an item: those of its cell, or so many of the file from a number on
 abbrev pub item_bodies : List Body → Item → List Body
-item_bodies bodies (item.Cell key page) = bodies_under key (in_box bodies)
-item_bodies bodies (item.Bodies from count) = range_of bodies from count
+item_bodies bodies (item.Cell key page) = bodies_under key (unescaped bodies)
+item_bodies bodies (item.Bodies from count) = bodies_from bodies from count
 
 -- ---- sums over the items
 
 -- what an item gives: the force of its cell, or what its bodies give one by one
 abbrev pub item_force : Params → List Body → At → Item → V3
-item_force params bodies p (item.Cell key page) = force_on params p (level_of key) (bodies_under key (in_box bodies))
-item_force params bodies p (item.Bodies from count) = direct_sum params p (range_of bodies from count)
+item_force params bodies p (item.Cell key page) = force_on params p (level_of key) (bodies_under key (unescaped bodies))
+item_force params bodies p (item.Bodies from count) = direct_sum params p (bodies_from bodies from count)
 
 abbrev pub remaining_force : Params → List Body → At → List Item → V3
 remaining_force params bodies p items = vector_sum (map (item_force params bodies p) items)
@@ -61,7 +61,7 @@ remaining_mass bodies items = sum_by (item_mass bodies) items
 abbrev pub item_terms : Acceptance → ℕ → List Body → Item → List Term
 item_terms accepts leaf bodies (item.Cell key page) =
     terms_to_depth accepts leaf (deepest_level - level_of key) key (bodies_under key (in_order bodies))
-item_terms accepts leaf bodies (item.Bodies from count) = body_terms (range_of bodies from count)
+item_terms accepts leaf bodies (item.Bodies from count) = body_terms (bodies_from bodies from count)
 
 -- the terms that are still to come: first those of the last item
 unfoldable pub remaining_terms : Acceptance → ℕ → List Body → List Item → List Term

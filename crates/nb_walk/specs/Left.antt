@@ -5,7 +5,7 @@ use Rattle.nb_model.specs.declared.params.Params.{Params}
 use Rattle.nb_model.specs.Limits.{deepest_level}
 use Rattle.nb_model.specs.Octree.{in_octant}
 use Rattle.nb_model.specs.Gravity.{octants}
-use Rattle.nb_model.specs.Leapfrog.{in_box}
+use Rattle.nb_model.specs.Leapfrog.{unescaped}
 use Rattle.nb_host.specs.Page.{page_of}
 use Rattle.nb_record.specs.declared.cell.Cell.{Cell}
 use Rattle.nb_record.specs.declared.sizes.TheConstants.{BODIES_PER_PAGE}
@@ -30,13 +30,13 @@ pages_to file tree key page = pages_up_to file key (chain file tree.pages page)
 
 -- What the bodies of a leaf weigh, so many from a number on: while the leaf's cell is still to be looked up, and once only
 -- they are left.
-pub record Weights : Type 0 where
+pub record WorkCosts : Type 0 where
   pub of_leaf : ℕ → ℕ → ℕ
   pub of_bodies : ℕ → ℕ → ℕ
 
 -- The work under an opened cell, with so many levels below it: a leaf has its bodies, any other the pages up to the records
 -- of the octants that aren't empty, and the work under these.
-unfoldable pub work_below : Weights → List ℕ → Tree → ℕ → List Body → ℕ → ℕ → List Body → ℕ
+unfoldable pub work_below : WorkCosts → List ℕ → Tree → ℕ → List Body → ℕ → ℕ → List Body → ℕ
 work_below weights file tree leaf all zero key bodies = weights.of_leaf (first_body all bodies) (length bodies)
 work_below weights file tree leaf all (suc depth) key bodies =
     let level = (deepest_level - 1) - depth in
@@ -51,32 +51,32 @@ work_below weights file tree leaf all (suc depth) key bodies =
     octants
 
 -- A cell that isn't empty counts the pages up to its record, and the work under it.
-abbrev pub item_left : Weights → List ℕ → Tree → ℕ → List Body → Item → ℕ
-item_left weights file tree leaf bodies (item.Cell key page) =
-    let own = bodies_under key (in_box bodies) in
+abbrev pub item_work : WorkCosts → List ℕ → Tree → ℕ → List Body → Item → ℕ
+item_work weights file tree leaf bodies (item.Cell key page) =
+    let own = bodies_under key (unescaped bodies) in
     if nat_lt 0 (length own)
     then pages_to file tree key (chain_page tree.bits key page)
-    + work_below weights file tree leaf (in_box bodies) (deepest_level - level_of key) key own
+    + work_below weights file tree leaf (unescaped bodies) (deepest_level - level_of key) key own
     else 0
-item_left weights file tree leaf bodies (item.Bodies from count) = weights.of_bodies from count
+item_work weights file tree leaf bodies (item.Bodies from count) = weights.of_bodies from count
 
-abbrev pub items_left : Weights → List ℕ → Tree → ℕ → List Body → List Item → ℕ
-items_left weights file tree leaf bodies items = sum_by (item_left weights file tree leaf bodies) items
+abbrev pub items_work : WorkCosts → List ℕ → Tree → ℕ → List Body → List Item → ℕ
+items_work weights file tree leaf bodies items = sum_by (item_work weights file tree leaf bodies) items
 
 -- on how many pages so many bodies of a file stand, from a number on
-abbrev pub pages_of : ℕ → ℕ → ℕ
-pages_of from zero = 0
-pages_of from (suc count) = suc ((from + count) / BODIES_PER_PAGE - from / BODIES_PER_PAGE)
+abbrev pub pages_spanned : ℕ → ℕ → ℕ
+pages_spanned from zero = 0
+pages_spanned from (suc count) = suc ((from + count) / BODIES_PER_PAGE - from / BODIES_PER_PAGE)
 
 -- the pages that are still to be looked at
 abbrev pub remaining_pages : List ℕ → Tree → ℕ → List Body → List Item → ℕ
 remaining_pages file tree leaf bodies items =
-    items_left (record { of_leaf = pages_of; of_bodies = pages_of }) file tree leaf bodies items
+    items_work (record { of_leaf = pages_spanned; of_bodies = pages_spanned }) file tree leaf bodies items
 
 -- the steps that are still to be taken, at most: one for each page of a chain, one for each leaf and one for each of its bodies
 abbrev pub remaining_steps : List ℕ → Tree → ℕ → List Body → List Item → ℕ
 remaining_steps file tree leaf bodies items =
-    items_left (record { of_leaf = λ from count. suc count; of_bodies = λ from count. count }) file tree leaf bodies items
+    items_work (record { of_leaf = λ from count. suc count; of_bodies = λ from count. count }) file tree leaf bodies items
 
 -- ---- over any pages
 
@@ -96,7 +96,7 @@ step_bound tree items = sum_by (item_bound tree) items
 pub record IsCellItem (params : Params) (bodies : List Body) (tree : Tree) (file : List ℕ) (key page : ℕ) : Type 0 where
   pub cell : Cell
   pub key_is : cell.key ≡ key
-  pub is : IsTreeCell params (in_box bodies) (level_of key) cell
+  pub is : IsTreeCell params (unescaped bodies) (level_of key) cell
   pub within : chain_page tree.bits key page < tree.pages
   pub ahead : Contains (cells_on_chain file tree.pages (chain_page tree.bits key page)) cell
   pub held : All (λ c. Contains (tree_cells params bodies) c) (cells_on_chain file tree.pages (chain_page tree.bits key page))
@@ -104,8 +104,8 @@ pub record IsCellItem (params : Params) (bodies : List Body) (tree : Tree) (file
 -- an item of the tree; the root is one also where the tree has no cell
 abbrev pub IsItemOf : Params → List Body → Tree → List ℕ → Item → Type 0
 IsItemOf params bodies tree file (item.Cell key page) =
-    ((key ≡ 1) × (page ≡ 0) × (in_box bodies ≡ [])) ⊎ IsCellItem params bodies tree file key page
-IsItemOf params bodies tree file (item.Bodies from count) = (1 ≤ count) × (from + count ≤ length (in_box bodies))
+    ((key ≡ 1) × (page ≡ 0) × (unescaped bodies ≡ [])) ⊎ IsCellItem params bodies tree file key page
+IsItemOf params bodies tree file (item.Bodies from count) = (1 ≤ count) × (from + count ≤ length (unescaped bodies))
 
 abbrev pub AreItemsOf : Params → List Body → Tree → List ℕ → List Item → Type 0
 AreItemsOf params bodies tree file items = All (IsItemOf params bodies tree file) items

@@ -23,9 +23,9 @@ opened_items cell = if cell.kids == 0 then item.Bodies cell.first cell.count ∷
 
 -- Of a cell, by the index that its record has on the page: nothing, where the cell is accepted as one mass, or what it has,
 -- where it is opened. Where the page lacks it, the next page of the chain is still to be looked at.
-abbrev pub CellLeaves : ℕ → List ℕ → Option ℕ → List Item → Type 0
-CellLeaves key bytes (Some i) more = (more ≡ []) ⊎ (more ≡ opened_items (cell_of (cell_record i bytes)))
-CellLeaves key bytes None more = more ≡ item.Cell key (page_next bytes) ∷ []
+abbrev pub IsRestOfCell : ℕ → List ℕ → Option ℕ → List Item → Type 0
+IsRestOfCell key bytes (Some i) more = (more ≡ []) ⊎ (more ≡ opened_items (cell_of (cell_record i bytes)))
+IsRestOfCell key bytes None more = more ≡ item.Cell key (page_next bytes) ∷ []
 
 -- the bodies of a leaf that stand on later pages than the first of them, which a visit leaves
 abbrev pub later_bodies : ℕ → ℕ → List Item
@@ -38,9 +38,9 @@ abbrev pub next_bodies : ℕ → ℕ → List Item
 next_bodies from count = if nat_lt 1 count then item.Bodies (from + 1) (count - 1) ∷ [] else []
 
 -- what is left of an item once its page with these bytes was looked at
-abbrev pub Leaves : (ℕ → ℕ → List Item) → List ℕ → Item → List Item → Type 0
-Leaves of_bodies bytes (item.Cell key page) more = CellLeaves key bytes (index_of_key key bytes) more
-Leaves of_bodies bytes (item.Bodies from count) more = more ≡ of_bodies from count
+abbrev pub IsRestOfItem : (ℕ → ℕ → List Item) → List ℕ → Item → List Item → Type 0
+IsRestOfItem of_bodies bytes (item.Cell key page) more = IsRestOfCell key bytes (index_of_key key bytes) more
+IsRestOfItem of_bodies bytes (item.Bodies from count) more = more ≡ of_bodies from count
 
 -- One look: the last item's page is shown, and what it leaves of that item comes in its place.
 pub record IsOneLook (of_bodies : ℕ → ℕ → List Item) (cells bodies : ℕ → Option (List ℕ)) (tree : Tree) (old new : List Item) : Type 0 where
@@ -51,4 +51,4 @@ pub record IsOneLook (of_bodies : ℕ → ℕ → List Item) (cells bodies : ℕ
   pub shown : shown_for cells bodies tree item ≡ Some bytes
   pub more : List Item
   pub left : new ≡ front ++ more
-  pub leaves : Leaves of_bodies bytes item more
+  pub leaves : IsRestOfItem of_bodies bytes item more

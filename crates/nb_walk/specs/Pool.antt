@@ -6,7 +6,7 @@ use Rattle.nb_model.specs.declared.body.V3.{V3}
 use Rattle.nb_model.specs.declared.body.Body.{Body}
 use Rattle.nb_model.specs.declared.params.Params.{Params}
 use Rattle.nb_model.specs.Gravity.{force_on}
-use Rattle.nb_model.specs.Leapfrog.{in_box}
+use Rattle.nb_model.specs.Leapfrog.{unescaped}
 use Rattle.nb_model.specs.Valid.{IsInBox}
 use Rattle.nb_host.specs.declared.page_name.PageName.{PageName}
 use Rattle.nb_host.specs.Page.{IsRising}
@@ -17,7 +17,7 @@ use Rattle.nb_walk.specs.Items.{page_for}
 use Rattle.nb_walk.specs.Left.{step_bound, remaining_pages}
 use Rattle.nb_walk.specs.Shown.{Shows, shown_for}
 use Rattle.nb_walk.specs.Page.{IsPageOf}
-use Rattle.nb_walk.specs.Walk.{WalkValue, new_walk, IsInRange, IsWithin, IsWalkOn}
+use Rattle.nb_walk.specs.Walk.{WalkValue, new_walk, IsSumInRange, IsWithin, IsWalkOn}
 
 -- a walk of a pool, and the item at which it waits, as the last advance found it
 pub record PooledWalk : Type 0 where
@@ -46,8 +46,8 @@ sums walks = map (λ w. w.walk.sum) walks
 abbrev pub all_needs : List PooledWalk → List (Option Item)
 all_needs walks = map (λ w. w.needs) walks
 
-abbrev pub AreInRange : Params → List PooledWalk → Type 0
-AreInRange params walks = All (λ w. IsInRange params w.walk) walks
+abbrev pub AreSumsInRange : Params → List PooledWalk → Type 0
+AreSumsInRange params walks = All (λ w. IsSumInRange params w.walk) walks
 
 abbrev pub AreWithin : ℕ → List PooledWalk → Type 0
 AreWithin most walks = All (λ w. IsWithin most w.walk) walks
@@ -110,11 +110,11 @@ abbrev pub AreOn : Params → List Body → Tree → List ℕ → List PooledWal
 AreOn params bodies tree file walks = All (λ w. IsWalkOn params bodies tree file w.walk) walks
 
 -- An advance over the tree of these bodies: each walk stays on its way, and no more pages are left than before, fewer where a
--- walk can go on. A tree without bodies in the box has no pages.
+-- walk can go on. A tree without unescaped bodies has no pages.
 pub record IsAdvanced (cells_shown bodies_shown : ℕ → Option (List ℕ)) (params : Params) (bodies : List Body) (tree : Tree) (file : List ℕ) (old new : List PooledWalk) : Type 0 where
   pub walks : AreOn params bodies tree file new
   pub left : pool_pages file tree params.leaf bodies new ≤ pool_pages file tree params.leaf bodies old
-  pub lower : in_box bodies ≢ [] → CanGoOn cells_shown bodies_shown tree old → pool_pages file tree params.leaf bodies new < pool_pages file tree params.leaf bodies old
+  pub lower : unescaped bodies ≢ [] → CanGoOn cells_shown bodies_shown tree old → pool_pages file tree params.leaf bodies new < pool_pages file tree params.leaf bodies old
 
 -- what holds over the files of any tree, where only their pages are shown, of walks that are on their way
 abbrev pub PoolOnTree : Params → Tree → (cells bodies : ℕ → Option (List ℕ)) → List PooledWalk → (List Body → List ℕ → Type 0) → Type 0
@@ -137,4 +137,4 @@ pub data Called (params : Params) (bodies : List Body) (tree : Tree) (files : �
 
 -- the sum of each walk is the force on its target
 abbrev pub HaveForces : Params → List Body → List PooledWalk → Type 0
-HaveForces params bodies walks = sums walks ≡ map (λ p. force_on params p 0 (in_box bodies)) (targets walks)
+HaveForces params bodies walks = sums walks ≡ map (λ p. force_on params p 0 (unescaped bodies)) (targets walks)

@@ -3,12 +3,12 @@ use Rattle.std.specs.Prelude.{◌≡◌, ℕ, ◌+◌, ◌<◌, ◌≤◌, List,
 use Rattle.nb_model.specs.declared.params.Params.{Params}
 use Rattle.nb_record.specs.declared.tree.Tree.{Tree}
 use Rattle.nb_walk.specs.Left.{step_bound, remaining_pages}
-use Rattle.nb_walk.specs.Walk.{WalkValue, IsInRange, IsWithin, IsWalkOn, OnTree}
+use Rattle.nb_walk.specs.Walk.{WalkValue, IsSumInRange, IsWithin, IsWalkOn, OnTree}
 
 -- a walk went on in range, whatever pages were shown
 pub record KeepsWalk (params : Params) (tree : Tree) (old new : WalkValue) : Type 0 where
   pub target : new.target ≡ old.target
-  pub range : IsInRange params new
+  pub range : IsSumInRange params new
   pub within : IsWithin tree.mass old → IsWithin tree.mass new
   pub bound : step_bound tree new.items ≤ step_bound tree old.items
 

@@ -22,7 +22,7 @@ abbrev pub shown_for : (cells bodies : ℕ → Option (List ℕ)) → Tree → I
 shown_for cells bodies tree (item.Cell key page) = cells (chain_page tree.bits key page)
 shown_for cells bodies tree (item.Bodies from count) = bodies (from / BODIES_PER_PAGE)
 
--- The item that is to be looked at next: the last. A tree without bodies in the box has no cells, so over it nothing is
+-- The item that is to be looked at next: the last. A tree without unescaped bodies has no cells, so over it nothing is
 -- left.
 abbrev pub next_item : Tree → List Item → Option Item
 next_item tree items = if tree.count == 0 then None else last_item items
@@ -35,7 +35,7 @@ pub record WaitsFor (cells bodies : ℕ → Option (List ℕ)) (tree : Tree) (it
   pub unseen : shown_for cells bodies tree item ≡ None
 
 -- this page of the next item is shown: a step that blames a page blames the one that it looked at
-pub record LooksAt (cells bodies : ℕ → Option (List ℕ)) (tree : Tree) (items : List Item) (name : PageName) : Type 0 where
+pub record BlamesNext (cells bodies : ℕ → Option (List ℕ)) (tree : Tree) (items : List Item) (name : PageName) : Type 0 where
   pub item : Item
   pub next : next_item tree items ≡ Some item
   pub page : page_for tree item ≡ name

@@ -2,7 +2,7 @@
 use Rattle.std.specs.Prelude.{◌≡◌, ℕ, suc, ⊤, List, Option, Some, None}
 use Rattle.nb_model.specs.declared.body.Body.{Body}
 use Rattle.nb_model.specs.declared.params.Params.{Params}
-use Rattle.nb_model.specs.Leapfrog.{in_box}
+use Rattle.nb_model.specs.Leapfrog.{unescaped}
 use Rattle.nb_record.specs.declared.cell.Cell.{Cell}
 use Rattle.nb_record.specs.declared.tree.Tree.{Tree}
 use Rattle.nb_record.specs.Cells.{IsTreeCell}
@@ -25,17 +25,17 @@ IfCell (sight.Wants name) P = ⊤
 IfCell (sight.Damaged name) P = ⊤
 
 -- what holds of a next page
-abbrev pub IfNext : Sight → (ℕ → Type 0) → Type 0
-IfNext (sight.Cell cell) P = ⊤
-IfNext (sight.Next next) P = P next
-IfNext (sight.Wants name) P = ⊤
-IfNext (sight.Damaged name) P = ⊤
+abbrev pub IfNextPage : Sight → (ℕ → Type 0) → Type 0
+IfNextPage (sight.Cell cell) P = ⊤
+IfNextPage (sight.Next next) P = P next
+IfNextPage (sight.Wants name) P = ⊤
+IfNextPage (sight.Damaged name) P = ⊤
 
 -- Over a tree: the cell that is seen is the tree's, and stands on this page; or the page leads to the next one on the way
 -- to it.
 abbrev pub SeesOver : Params → List Body → Tree → List ℕ → ℕ → ℕ → Sight → Type 0
 SeesOver params bodies tree file key page (sight.Cell cell) =
-    (cell.key ≡ key) × IsTreeCell params (in_box bodies) (level_of key) cell
+    (cell.key ≡ key) × IsTreeCell params (unescaped bodies) (level_of key) cell
     × (pages_to file tree key (chain_page tree.bits key page) ≡ 1)
 SeesOver params bodies tree file key page (sight.Next next) =
     IsCellItem params bodies tree file key next
@@ -52,7 +52,7 @@ pub record HasCell (shown : Option (List ℕ)) (key : ℕ) (cell : Cell) : Type 
   pub cell_is : cell_of (cell_record at bytes) ≡ cell
 
 -- the page that is shown lacks the key, and has this next page
-pub record HasNext (shown : Option (List ℕ)) (key next : ℕ) : Type 0 where
+pub record HasNextPage (shown : Option (List ℕ)) (key next : ℕ) : Type 0 where
   pub bytes : List ℕ
   pub is : shown ≡ Some bytes
   pub lacks : index_of_key key bytes ≡ None
@@ -60,7 +60,7 @@ pub record HasNext (shown : Option (List ℕ)) (key next : ℕ) : Type 0 where
 
 abbrev pub SeesPage : Option (List ℕ) → ℕ → Sight → Type 0
 SeesPage shown key (sight.Cell cell) = HasCell shown key cell
-SeesPage shown key (sight.Next next) = HasNext shown key next
+SeesPage shown key (sight.Next next) = HasNextPage shown key next
 SeesPage shown key (sight.Wants name) = ⊤
 SeesPage shown key (sight.Damaged name) = ⊤
 

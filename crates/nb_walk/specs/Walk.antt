@@ -6,7 +6,7 @@ use Rattle.nb_model.specs.declared.body.Body.{Body}
 use Rattle.nb_model.specs.declared.params.Params.{Params}
 use Rattle.nb_model.specs.Vector.{zero_vector, plus}
 use Rattle.nb_model.specs.Gravity.{force_on}
-use Rattle.nb_model.specs.Leapfrog.{in_box}
+use Rattle.nb_model.specs.Leapfrog.{unescaped}
 use Rattle.nb_host.specs.declared.page_name.PageName.{PageName}
 use Rattle.nb_record.specs.declared.tree.Tree.{Tree}
 use Rattle.nb_record.specs.Tree.{IsTreeOf}
@@ -29,8 +29,8 @@ new_walk target = record { target = target; sum = zero_vector; taken = 0; items 
 
 -- The sum can have come from the mass that was taken: a pull is at most the constant of gravity times its mass. A new walk's
 -- is in range, and a visit keeps it so for the same parameters.
-abbrev pub IsInRange : Params → WalkValue → Type 0
-IsInRange params w = IsAtMost (params.grav * w.taken) w.sum
+abbrev pub IsSumInRange : Params → WalkValue → Type 0
+IsSumInRange params w = IsAtMost (params.grav * w.taken) w.sum
 
 -- no more mass was taken than this: a visit takes none beyond the tree's
 abbrev pub IsWithin : ℕ → WalkValue → Type 0
@@ -39,7 +39,7 @@ IsWithin most w = w.taken ≤ most
 -- The walk is on its way over the tree of these bodies: its sum and what is left are the force on its target, the mass that
 -- was taken and the mass that is left are the tree's, and the items are the tree's.
 pub record IsWalkOn (params : Params) (bodies : List Body) (tree : Tree) (file : List ℕ) (w : WalkValue) : Type 0 where
-  pub sum : plus w.sum (remaining_force params bodies w.target w.items) ≡ force_on params w.target 0 (in_box bodies)
+  pub sum : plus w.sum (remaining_force params bodies w.target w.items) ≡ force_on params w.target 0 (unescaped bodies)
   pub mass : w.taken + remaining_mass bodies w.items ≡ tree.mass
   pub items : AreItemsOf params bodies tree file w.items
 
@@ -50,17 +50,17 @@ Lowers (visit.Wants name) old new = ⊤
 Lowers visit.Finished old new = ⊤
 Lowers (visit.Damaged name) old new = ⊤
 
-abbrev pub IsSound : Visit → Type 0
-IsSound visit.Moved = ⊤
-IsSound (visit.Wants name) = ⊤
-IsSound visit.Finished = ⊤
-IsSound (visit.Damaged name) = ⊥
+abbrev pub IsUndamaged : Visit → Type 0
+IsUndamaged visit.Moved = ⊤
+IsUndamaged (visit.Wants name) = ⊤
+IsUndamaged visit.Finished = ⊤
+IsUndamaged (visit.Damaged name) = ⊥
 
 -- A visit over the tree of these bodies: the walk stays on its way, finds no damage, and where it went on has fewer pages
 -- left.
 pub record VisitsTree (params : Params) (bodies : List Body) (tree : Tree) (file : List ℕ) (old new : WalkValue) (result : Visit) : Type 0 where
   pub on : IsWalkOn params bodies tree file new
-  pub sound : IsSound result
+  pub sound : IsUndamaged result
   pub fewer : Lowers result (remaining_pages file tree params.leaf bodies old.items) (remaining_pages file tree params.leaf bodies new.items)
 
 -- ---- visits, one after the other
@@ -83,7 +83,7 @@ pub record RunsTree (cells bodies_shown : ℕ → Option (List ℕ)) (params : P
   pub on : IsWalkOn params bodies tree file new
   pub sound : IsOk result
   pub left : remaining_pages file tree params.leaf bodies new.items ≤ remaining_pages file tree params.leaf bodies old.items
-  pub lower : in_box bodies ≢ [] → CanVisit cells bodies_shown tree old.items
+  pub lower : unescaped bodies ≢ [] → CanVisit cells bodies_shown tree old.items
       → remaining_pages file tree params.leaf bodies new.items < remaining_pages file tree params.leaf bodies old.items
 
 -- what holds over the files of any tree, where only their pages are shown, of a walk that is on its way

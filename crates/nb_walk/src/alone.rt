@@ -10,10 +10,10 @@ ghost use Rattle.nb_walk.specs.Items.{last_item};
 ghost use Rattle.nb_walk.specs.Left.{step_bound};
 ghost use Rattle.nb_walk.specs.Part.{IsTally, KeepsTally, OnPart, TakesPart};
 ghost use Rattle.nb_walk.specs.Pool.{BlamesOne};
-ghost use Rattle.nb_walk.specs.Room.{HasRoom, IsSmall};
+ghost use Rattle.nb_walk.specs.Room.{HasRoom, IsItemInRange};
 ghost use Rattle.nb_walk.specs.Running.{KeepsWalk, Each, EachAt};
 ghost use Rattle.nb_walk.specs.Shared.{is_left_to, IsShared};
-ghost use Rattle.nb_walk.specs.Shown.{IsWalkable, LooksAt, Shows, shown_for};
+ghost use Rattle.nb_walk.specs.Shown.{IsWalkable, BlamesNext, Shows, shown_for};
 ghost use Rattle.nb_walk.specs.Walk.{IsBlocked, CanVisit, IsWalkOn};
 
 use crate::group::{Group, Own};
@@ -54,7 +54,7 @@ fn run_own<L: Lender>(
         → OnOk result (TakesPart (L.cells lender.now) (L.bodies lender.now) params.now tree.now 1
         items.old.items items.new.items tally.old tally.new) }
     ensures damaged { (name : Names) → result ≡ Err name
-        → LooksAt (L.cells lender.now) (L.bodies lender.now) tree.now items.new.items name }
+        → BlamesNext (L.cells lender.now) (L.bodies lender.now) tree.now items.new.items name }
     ensures sound { OnPart params.now tree.now (L.cells lender.now) (L.bodies lender.now) items.old.items tally.old
         (λ bodies file. IsOk result) }
 {
@@ -82,7 +82,7 @@ fn is_shown<L: Lender>(item: &Item, tree: &Tree, lender: &L) -> bool
 /// others.
 fn share_out(owns: &mut [Own], entry: &SharedItem) -> u64
     requires shared { IsShared (length owns.old) entry.now }
-    requires small { IsSmall entry.now.item }
+    requires small { IsItemInRange entry.now.item }
     requires rooms { All (λ o. HasRoom (own_items o)) owns.old }
     ensures count { length owns.new ≡ length owns.old }
     ensures rooms { All (λ o. HasRoom (own_items o)) owns.new }
@@ -164,7 +164,7 @@ impl Group {
         requires group { IsGroup self.old }
         requires tallies { AreTallies params.now self.old }
         requires shared { IsShared (length self.old.tallies.items) entry }
-        requires small { IsSmall entry.item }
+        requires small { IsItemInRange entry.item }
         requires room { length (all_shared self.old) < self.old.room }
         ensures group { IsGroup self.new }
         ensures tallies { AreTallies params.now self.new }
@@ -192,7 +192,7 @@ impl Group {
     fn hand_out(&mut self, entry: SharedItem)
         requires group { IsGroup self.old }
         requires shared { IsShared (length self.old.tallies.items) entry }
-        requires small { IsSmall entry.item }
+        requires small { IsItemInRange entry.item }
         requires room { length (all_shared self.old) < self.old.room }
         ensures group { IsGroup self.new }
         ensures rooms { KeepsRooms self.old self.new }

@@ -5,15 +5,15 @@ ghost use Rattle.nb_model.specs.declared.params.Params.{Params as Parameters};
 ghost use Rattle.nb_model.specs.Valid.{AreInRange, IsInBox};
 ghost use Rattle.nb_host.specs.declared.page_name.PageName.{PageName as Names};
 ghost use Rattle.nb_walk.specs.declared.item.Item.TheVariants as item;
-ghost use Rattle.nb_record.specs.Pages.{page_count};
+ghost use Rattle.nb_record.specs.Pages.{record_count};
 ghost use Rattle.nb_record.specs.Records.{body_record, body_of, IsBodyRecord};
 ghost use Rattle.nb_walk.specs.Terms.{Acceptance};
 ghost use Rattle.nb_walk.specs.Items.{chain_page, page_for, root_items};
 ghost use Rattle.nb_walk.specs.Left.{step_bound};
 ghost use Rattle.nb_walk.specs.Looks.{IsOneLook, next_bodies};
 ghost use Rattle.nb_walk.specs.Room.{HasRoom};
-ghost use Rattle.nb_walk.specs.Shown.{LooksAt, WaitsFor, next_item};
-ghost use Rattle.nb_walk.specs.Course.{IsMove, IsStill, IsFormed, OverTree};
+ghost use Rattle.nb_walk.specs.Shown.{BlamesNext, WaitsFor, next_item};
+ghost use Rattle.nb_walk.specs.Course.{IsMove, IsStill, IsTermInRange, OverTree};
 
 use crate::item::Item;
 use crate::items::{Items, MOST_ITEMS, open};
@@ -73,11 +73,11 @@ impl<O: Opening> Course<O> {
         ensures wants { (name : Names) → ((result ≡ Step.Wants name)
             ↔ WaitsFor (L.cells lender.now) (L.bodies lender.now) tree.now self.old.items name) }
         ensures damaged { (name : Names) → result ≡ Step.Damaged name
-            → LooksAt (L.cells lender.now) (L.bodies lender.now) tree.now self.old.items name }
+            → BlamesNext (L.cells lender.now) (L.bodies lender.now) tree.now self.old.items name }
         ensures finished { (result ≡ Step.Finished) ↔ (next_item tree.now self.old.items ≡ None) }
         ensures same { IsStill result → self.new ≡ self.old }
         ensures kept { (self.new.opening ≡ self.old.opening) × (self.new.target ≡ self.old.target) }
-        ensures form { IsFormed result }
+        ensures form { IsTermInRange result }
         ensures look { IsMove result
             → IsOneLook next_bodies (L.cells lender.now) (L.bodies lender.now) tree.now
             self.old.items self.new.items }
@@ -140,7 +140,7 @@ fn cell_step<O: Opening, L: Lender>(
     ensures unfinished { result ≢ Step.Finished }
     ensures room { HasRoom items.new.items }
     ensures same { IsStill result → items.new.items ≡ items.old.items ++ item.Cell key page ∷ [] }
-    ensures form { IsFormed result }
+    ensures form { IsTermInRange result }
     ensures look { IsMove result
         → IsOneLook next_bodies (L.cells lender.now) (L.bodies lender.now) tree.now
         (items.old.items ++ item.Cell key page ∷ []) items.new.items }
@@ -181,7 +181,7 @@ fn bodies_step<L: Lender>(items: &mut Items, from: u64, count: u64, tree: &Tree,
     ensures unfinished { result ≢ Step.Finished }
     ensures room { HasRoom items.new.items }
     ensures same { IsStill result → items.new.items ≡ items.old.items ++ item.Bodies from count ∷ [] }
-    ensures form { IsFormed result }
+    ensures form { IsTermInRange result }
     ensures look { IsMove result
         → IsOneLook next_bodies (L.cells lender.now) (L.bodies lender.now) tree.now
         (items.old.items ++ item.Bodies from count ∷ []) items.new.items }
@@ -215,8 +215,8 @@ fn bodies_step<L: Lender>(items: &mut Items, from: u64, count: u64, tree: &Tree,
 
 /// Body i of a page, where the page has one there.
 fn body_at(page: &BodyPage<'_>, i: u64) -> Option<Body>
-    ensures { MatchOption result (i < page_count page.now → ¬ IsBodyRecord (body_record i page.now))
-        (λ body. (i < page_count page.now) × IsBodyRecord (body_record i page.now)
+    ensures { MatchOption result (i < record_count page.now → ¬ IsBodyRecord (body_record i page.now))
+        (λ body. (i < record_count page.now) × IsBodyRecord (body_record i page.now)
         × (body ≡ body_of (body_record i page.now))) }
 {
     if i >= page.count() {

@@ -5,7 +5,7 @@ ghost use Rattle.nb_model.specs.declared.body.At.{At};
 ghost use Rattle.nb_model.specs.declared.body.Body.{Body};
 ghost use Rattle.nb_model.specs.declared.params.Params.{Params};
 ghost use Rattle.nb_model.specs.Gravity.{force_on};
-ghost use Rattle.nb_model.specs.Leapfrog.{in_box};
+ghost use Rattle.nb_model.specs.Leapfrog.{unescaped};
 ghost use Rattle.nb_model.specs.Valid.{IsInBox};
 ghost use Rattle.nb_host.specs.declared.page_name.PageName.{PageName};
 ghost use Rattle.nb_host.specs.Page.{HasPage};
@@ -18,9 +18,9 @@ ghost use Rattle.nb_walk.specs.Items.{in_order, root_items, remaining_terms, rem
 ghost use Rattle.nb_walk.specs.Left.{AreItemsOf};
 ghost use Rattle.nb_walk.specs.Page.{IsShown};
 ghost use Rattle.nb_walk.specs.Walk.{WalkValue, new_walk, IsWalkOn};
-ghost use Rattle.nb_walk.specs.Pool.{PooledWalk, with_walk, AreInRange, AreWithin, AreOn, AreFinished, IsSettled, IsWanted, CanGoOn, Called, HaveForces};
+ghost use Rattle.nb_walk.specs.Pool.{PooledWalk, with_walk, AreSumsInRange, AreWithin, AreOn, AreFinished, IsSettled, IsWanted, CanGoOn, Called, HaveForces};
 
-/// A new walk has the whole interaction list of the bodies in the box, in Morton order, still to come. By the
+/// A new walk has the whole interaction list of the unescaped bodies, in Morton order, still to come. By the
 /// opening angle the list gives what the definition's recursion gives.
 pub fn law_interaction_list()
     ensures start { (accepts : Acceptance) (leaf : ℕ) (bodies : List Body)
@@ -29,7 +29,7 @@ pub fn law_interaction_list()
         → All (λ b. IsInBox b.at) bodies
         → pulls params p (interaction_list
         (λ key mass centre. by_angle params p key centre) params.leaf (in_order bodies))
-        ≡ force_on params p 0 (in_box bodies) }
+        ≡ force_on params p 0 (unescaped bodies) }
 {}
 
 /// The terms to come of a tree's items pull as their cells and their bodies do, in whatever order these are
@@ -53,7 +53,7 @@ pub fn law_walk()
         → IsWalkOn params bodies tree (files tree.cells) (new_walk p) }
     ensures finished { (params : Params) (bodies : List Body) (tree : Tree) (file : List ℕ) (w : WalkValue)
         → IsWalkOn params bodies tree file w → w.items ≡ []
-        → w.sum ≡ force_on params w.target 0 (in_box bodies) }
+        → w.sum ≡ force_on params w.target 0 (unescaped bodies) }
 {}
 
 /// A walk more is on its way as the others are, in range, and within any mass. Over a tree each wanted page
@@ -64,8 +64,8 @@ pub fn law_pool()
         (walks : List PooledWalk) → IsTreeOf tree files params bodies
         → AreOn params bodies tree (files tree.cells) walks
         → AreOn params bodies tree (files tree.cells) (with_walk p walks) }
-    ensures range { (params : Params) (p : At) (walks : List PooledWalk) → AreInRange params walks
-        → AreInRange params (with_walk p walks) }
+    ensures range { (params : Params) (p : At) (walks : List PooledWalk) → AreSumsInRange params walks
+        → AreSumsInRange params (with_walk p walks) }
     ensures within { (most : ℕ) (p : At) (walks : List PooledWalk) → AreWithin most walks
         → AreWithin most (with_walk p walks) }
     ensures whole { (cells bodies_shown : ℕ → Option (List ℕ)) (params : Params) (bodies : List Body)

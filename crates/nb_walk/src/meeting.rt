@@ -3,7 +3,7 @@
 ghost use Rattle.std.specs.Prelude.{◌≡◌, ℕ, ◌+◌, ◌*◌, ◌<◌, ◌≤◌, ◌⊎◌, true, false, IsTrue, None, Some, [], ◌∷◌, length, get_or, sum_by, All};
 ghost use Rattle.nb_model.specs.Limits.{gm_limit};
 ghost use Rattle.nb_model.specs.Valid.{AreInRange, IsInBox};
-ghost use Rattle.nb_record.specs.Pages.{page_count};
+ghost use Rattle.nb_record.specs.Pages.{record_count};
 ghost use Rattle.nb_record.specs.Records.{body_record, IsBodyRecord, IsCell};
 ghost use Rattle.nb_walk.specs.declared.tally.Tally.{Tally as Tallies};
 ghost use Rattle.nb_walk.specs.declared.term.Term.TheVariants as term;
@@ -114,7 +114,7 @@ pub(crate) fn meet_bodies(
     requires params { AreInRange params.now }
     requires gm { params.now.grav * most < gm_limit }
     requires from { from ≤ end }
-    requires end { end ≤ page_count page.now }
+    requires end { end ≤ record_count page.now }
     requires tallies { All (IsTally params.now) tallies.old }
     requires shared { IsShared (length tallies.old) entry.now }
     ensures count { length tallies.new ≡ length tallies.old }

@@ -5,10 +5,10 @@ ghost use Rattle.nb_host.specs.declared.page_name.PageName.{PageName as Names};
 ghost use Rattle.nb_walk.specs.declared.group.Own.{Own as Owns};
 ghost use Rattle.nb_walk.specs.declared.item.Item.{Item as SomeItem};
 ghost use Rattle.nb_walk.specs.declared.shared.SharedItem.{SharedItem as Shares};
-ghost use Rattle.nb_walk.specs.Group.{own_items, IsGroup, HaveNeeds, KeepsRooms, IsGiven, SomeNeed};
+ghost use Rattle.nb_walk.specs.Group.{own_items, IsGroup, HaveNeeds, KeepsRooms, MayBeGiven, SomeNeed};
 ghost use Rattle.nb_walk.specs.Items.{last_item, page_for};
 ghost use Rattle.nb_walk.specs.Page.{IsPageOf};
-ghost use Rattle.nb_walk.specs.Room.{IsSmall};
+ghost use Rattle.nb_walk.specs.Room.{IsItemInRange};
 ghost use Rattle.nb_walk.specs.Running.{Each, EachAt};
 ghost use Rattle.nb_walk.specs.Shared.{items_of, is_left_to};
 
@@ -64,7 +64,7 @@ fn find_around(waits: &[SharedItem], i: usize, start: usize) -> Option<Item>
 /// first in the list, since a pass takes them first.
 fn wait_for_shared(owns: &mut [Own], waits: &[SharedItem])
     ensures count { length owns.new ≡ length owns.old }
-    ensures given { EachAt (λ i. IsGiven waits.now i) (length owns.old) owns.old owns.new }
+    ensures given { EachAt (λ i. MayBeGiven waits.now i) (length owns.old) owns.old owns.new }
     ensures none { (i : ℕ) (d : Owns) → i < length owns.old → (get_or owns.new i d).need ≡ None
         → items_of i waits.now ≡ [] }
 {
@@ -80,7 +80,7 @@ fn wait_for_shared(owns: &mut [Own], waits: &[SharedItem])
 /// The name of the page of an item.
 fn page_name(tree: &Tree, item: &Item) -> PageName
     requires bits { tree.now.bits ≤ 18 }
-    requires small { IsSmall item.now }
+    requires small { IsItemInRange item.now }
     ensures name { result ≡ page_for tree.now item.now }
     ensures page { IsPageOf tree.now result }
 {

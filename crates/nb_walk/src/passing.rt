@@ -9,7 +9,7 @@ ghost use Rattle.nb_walk.specs.declared.item.Item.TheVariants as item;
 ghost use Rattle.nb_walk.specs.Group.{group_walks, walks_with, all_shared, IsGroup, AreTallies, AreAtRest, LooksAtShared, TakesShared, KeepsRooms};
 ghost use Rattle.nb_walk.specs.Looks.{opened_items};
 ghost use Rattle.nb_walk.specs.Pool.{BlamesOne};
-ghost use Rattle.nb_walk.specs.Room.{IsSmall};
+ghost use Rattle.nb_walk.specs.Room.{IsItemInRange};
 ghost use Rattle.nb_walk.specs.Running.{KeepsWalk, HasRun, Each};
 ghost use Rattle.nb_walk.specs.Shared.{items_of, shared_by, IsShared};
 ghost use Rattle.nb_walk.specs.Shown.{IsWalkable, Shows};
@@ -29,7 +29,7 @@ use nb_record::{BODIES_PER_PAGE, CellView, Lender, Tree};
 const MOST_MORE: usize = 8;
 
 impl Group {
-    /// Drops all items: over a tree without bodies in the box nothing is left.
+    /// Drops all items: over a tree without unescaped bodies nothing is left.
     pub(crate) fn finish(&mut self)
         requires group { IsGroup self.old }
         ensures group { IsGroup self.new }
@@ -112,7 +112,7 @@ impl Group {
         requires group { IsGroup self.old }
         requires tallies { AreTallies params.now self.old }
         requires shared { IsShared (length self.old.tallies.items) entry }
-        requires small { IsSmall entry.item }
+        requires small { IsItemInRange entry.item }
         requires room { length (all_shared self.old) < self.old.room }
         ensures group { IsGroup self.new }
         ensures tallies { AreTallies params.now self.new }
@@ -156,7 +156,7 @@ impl Group {
         requires group { IsGroup self.old }
         requires tallies { AreTallies params.now self.old }
         requires shared { IsShared (length self.old.tallies.items) entry }
-        requires small { IsSmall entry.item }
+        requires small { IsItemInRange entry.item }
         requires room { length (all_shared self.old) + 8 ≤ self.old.room }
         ensures group { IsGroup self.new }
         ensures tallies { AreTallies params.now self.new }
@@ -249,7 +249,7 @@ impl Group {
         requires group { IsGroup self.old }
         requires tallies { AreTallies params.now self.old }
         requires shared { IsShared (length self.old.tallies.items) entry }
-        requires small { IsSmall entry.item }
+        requires small { IsItemInRange entry.item }
         requires room { length (all_shared self.old) + 8 ≤ self.old.room }
         ensures group { IsGroup self.new }
         ensures tallies { AreTallies params.now self.new }

@@ -8,7 +8,7 @@ ghost use Rattle.nb_model.specs.declared.body.Body.{Body as Bodies};
 ghost use Rattle.nb_record.specs.Tree.{IsTreeOf};
 ghost use Rattle.nb_walk.specs.Shown.{IsWalkable, Shows};
 ghost use Rattle.nb_walk.specs.Walk.{new_walk};
-ghost use Rattle.nb_walk.specs.Pool.{unasked, all_unasked, targets, sums, AreInRange, AreWithin, AreFinished, IsSettled, SomeWaits, BlamesOne, IsWanted, pool_bound, CanGoOn, IsAdvanced, PoolOnTree};
+ghost use Rattle.nb_walk.specs.Pool.{unasked, all_unasked, targets, sums, AreSumsInRange, AreWithin, AreFinished, IsSettled, SomeWaits, BlamesOne, IsWanted, pool_bound, CanGoOn, IsAdvanced, PoolOnTree};
 
 use crate::group::Group;
 use crate::shared::BLOCK;
@@ -129,10 +129,10 @@ impl Pool {
         lender: &L,
     ) -> Result<bool, PageName>
         requires tree { IsWalkable params.now tree.now }
-        requires range { AreInRange params.now self.old.walks }
+        requires range { AreSumsInRange params.now self.old.walks }
         ensures room { self.new.room ≡ self.old.room }
         ensures targets { targets self.new.walks ≡ targets self.old.walks }
-        ensures range { AreInRange params.now self.new.walks }
+        ensures range { AreSumsInRange params.now self.new.walks }
         ensures within { AreWithin tree.now.mass self.old.walks → AreWithin tree.now.mass self.new.walks }
         ensures settled { OnOk result
             (All (IsSettled (L.cells lender.now) (L.bodies lender.now) tree.now) self.new.walks) }

@@ -5,7 +5,7 @@ ghost use Rattle.nb_host.specs.declared.page_name.PageName.{PageName as Names};
 ghost use Rattle.nb_record.specs.Records.{IsCell};
 ghost use Rattle.nb_walk.specs.declared.item.Item.TheVariants as item;
 ghost use Rattle.nb_walk.specs.Items.{chain_page, page_for};
-ghost use Rattle.nb_walk.specs.Sight.{IfCell, IfNext, SeesPage, SeesTree};
+ghost use Rattle.nb_walk.specs.Sight.{IfCell, IfNextPage, SeesPage, SeesTree};
 
 use nb_host::PageName;
 use nb_key::Key;
@@ -44,7 +44,7 @@ pub(crate) fn look_at<'a, L: Lender>(tree: &Tree, lender: &'a L, key: Key, page:
     ensures damaged { (name : Names) → result ≡ Sight.Damaged name
         → (name ≡ page_for tree.now (item.Cell key page))
         × (L.cells lender.now (chain_page tree.now.bits key page) ≢ None) }
-    ensures next { IfNext result (λ next. (page < next) × (next < tree.now.pages)) }
+    ensures next { IfNextPage result (λ next. (page < next) × (next < tree.now.pages)) }
     ensures form { IfCell result IsCell }
     ensures key { IfCell result (λ cell. cell.key ≡ key) }
     ensures within { IfCell result (λ cell. cell.first + cell.count ≤ tree.now.count) }

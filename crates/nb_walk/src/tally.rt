@@ -5,7 +5,7 @@ ghost use Rattle.nb_model.specs.Limits.{gm_limit};
 ghost use Rattle.nb_model.specs.Valid.{AreInRange, IsBelow, IsInBox};
 ghost use Rattle.nb_model.specs.Vector.{plus, zero_vector};
 ghost use Rattle.nb_key.specs.Morton.{morton_key};
-ghost use Rattle.nb_record.specs.Pages.{page_count};
+ghost use Rattle.nb_record.specs.Pages.{record_count};
 ghost use Rattle.nb_record.specs.Records.{body_record, IsBodyRecord};
 ghost use Rattle.nb_walk.specs.declared.term.Term.TheVariants as term;
 ghost use Rattle.nb_walk.specs.Angle.{by_angle, level_of};
@@ -114,7 +114,7 @@ impl Tally {
         requires gm { params.now.grav * most < gm_limit }
         requires range { IsAtMost (params.now.grav * self.old.taken) self.old.sum }
         requires from { from ≤ end }
-        requires end { end ≤ page_count page.now }
+        requires end { end ≤ record_count page.now }
         ensures added { IsTrue result
             → Adds params.now (page_terms page.now from end) self.old self.new }
         ensures refused { result ≡ false

@@ -9,10 +9,10 @@ ghost use Rattle.nb_walk.specs.declared.item.Item.TheVariants as item;
 ghost use Rattle.nb_walk.specs.Items.{chain_page, page_for, last_item, root_items};
 ghost use Rattle.nb_walk.specs.Left.{step_bound, remaining_pages};
 ghost use Rattle.nb_walk.specs.Looks.{IsOneLook, later_bodies};
-ghost use Rattle.nb_walk.specs.Room.{HasRoom, IsSmall};
-ghost use Rattle.nb_walk.specs.Shown.{IsWalkable, IsAtMost, LooksAt, WaitsFor, next_item, shown_for};
+ghost use Rattle.nb_walk.specs.Room.{HasRoom, IsItemInRange};
+ghost use Rattle.nb_walk.specs.Shown.{IsWalkable, IsAtMost, BlamesNext, WaitsFor, next_item, shown_for};
 ghost use Rattle.nb_walk.specs.Taking.{TakesTree};
-ghost use Rattle.nb_walk.specs.Walk.{new_walk, IsInRange, IsWithin, IsWalkOn, Lowers, OnTree, VisitsTree, IsBlocked, CanVisit, RunsTree};
+ghost use Rattle.nb_walk.specs.Walk.{new_walk, IsSumInRange, IsWithin, IsWalkOn, Lowers, OnTree, VisitsTree, IsBlocked, CanVisit, RunsTree};
 ghost use Rattle.nb_walk.specs.Page.{IsPageOf};
 
 use crate::course::take_last;
@@ -75,9 +75,9 @@ impl Walk {
     /// were, and the sum may have part of a page in it.
     pub fn visit<L: Lender>(&mut self, params: &Params, tree: &Tree, lender: &L) -> Visit
         requires tree { IsWalkable params.now tree.now }
-        requires range { IsInRange params.now self.old }
+        requires range { IsSumInRange params.now self.old }
         ensures target { self.new.target ≡ self.old.target }
-        ensures range { IsInRange params.now self.new }
+        ensures range { IsSumInRange params.now self.new }
         ensures within { IsWithin tree.now.mass self.old → IsWithin tree.now.mass self.new }
         ensures wants { (name : Names) → ((result ≡ Visit.Wants name)
             ↔ WaitsFor (L.cells lender.now) (L.bodies lender.now) tree.now self.old.items name) }
@@ -90,7 +90,7 @@ impl Walk {
           items = [];
         } }
         ensures damaged { (name : Names) → result ≡ Visit.Damaged name
-            → LooksAt (L.cells lender.now) (L.bodies lender.now) tree.now self.old.items name }
+            → BlamesNext (L.cells lender.now) (L.bodies lender.now) tree.now self.old.items name }
         ensures kept { (name : Names) → result ≡ Visit.Damaged name → self.new.items ≡ self.old.items }
         ensures look { result ≡ Visit.Moved
             → IsOneLook later_bodies (L.cells lender.now) (L.bodies lender.now) tree.now
@@ -137,7 +137,7 @@ pub(crate) fn visit_item<L: Lender>(
     ensures finished { (result ≡ Visit.Finished) ↔ (items.old.items ≡ []) }
     ensures done { result ≡ Visit.Finished → (items.new.items ≡ []) × (tally.new ≡ tally.old) }
     ensures damaged { (name : Names) → result ≡ Visit.Damaged name
-        → LooksAt (L.cells lender.now) (L.bodies lender.now) tree.now items.old.items name }
+        → BlamesNext (L.cells lender.now) (L.bodies lender.now) tree.now items.old.items name }
     ensures kept { (name : Names) → result ≡ Visit.Damaged name → items.new.items ≡ items.old.items }
     ensures room { HasRoom items.new.items }
     ensures target { tally.new.target ≡ tally.old.target }

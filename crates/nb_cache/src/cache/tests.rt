@@ -156,7 +156,7 @@ fn pages_that_leave_are_written(rt: HostRuntime) -> Result<(), Fail> {
         let (found, rest) = ends(alloc, host.bytes(FILE))?;
         assert_eq!(rt; found.as_slice(), left);
         assert_eq!(rt; rest, behind);
-        // Where the write failed, all four are as they were, and wait.
+        // Where the write failed, all four are as they were, and dirty.
         let first = if use_0 { 0x50 } else { 0x40 };
         assert_eq!(rt; put_byte(&mut host, &mut cache, 4, 0x44), Ok(()));
         assert_eq!(rt; cache.flush(&mut host), Ok(()));
@@ -168,13 +168,13 @@ fn pages_that_leave_are_written(rt: HostRuntime) -> Result<(), Fail> {
 }
 
 #[test]
-fn waiting_pages_are_written_once(rt: HostRuntime) -> Result<(), Fail> {
+fn dirty_pages_are_written_once(rt: HostRuntime) -> Result<(), Fail> {
     let alloc = rt.alloc();
     let mut host = MemoryHost::new(alloc);
     host.with_file(FILE, &vec![in alloc; 0; 3 * PAGE_SIZE]?)?;
     host.fail_at(&[2])?;
     let mut cache = Cache::new(alloc, 4)?;
-    // In rising order, whatever the order of the puts. The second write fails, and the page still waits.
+    // In rising order, whatever the order of the puts. The second write fails, and the page is still dirty.
     assert_eq!(rt; put_all(&mut host, &mut cache, &[0, 1, 2, 0]), Ok(()));
     assert_eq!(rt; host.calls(), 0);
     assert_eq!(rt; cache.flush(&mut host), Err(CacheError::Fault));
@@ -189,7 +189,7 @@ fn waiting_pages_are_written_once(rt: HostRuntime) -> Result<(), Fail> {
         ends(alloc, host.bytes(FILE))?.0.as_slice(),
         [0x40, 0x41, 0x42].as_slice()
     );
-    // A file that is emptied loses what waits.
+    // A file that is emptied loses its dirty pages.
     assert_eq!(rt; put_all(&mut host, &mut cache, &[1]), Ok(()));
     assert_eq!(rt; cache.empty(&mut host, FILE), Ok(()));
     assert_eq!(rt; cache.flush(&mut host), Ok(()));
@@ -211,7 +211,7 @@ fn pages_behind_a_gap(rt: HostRuntime) -> Result<(), Fail> {
     );
     assert_eq!(rt; shown(&cache, 2), None);
     assert_eq!(rt; host.bytes(FILE).len(), 10240);
-    // Now the page is within the file, and waits.
+    // Now the page is within the file, and dirty.
     assert_eq!(rt; put_byte(&mut host, &mut cache, 2, 0x42), Ok(()));
     assert_eq!(rt; host.calls(), 3);
     assert_eq!(rt; put_byte(&mut host, &mut cache, 5, 0x45), Ok(()));

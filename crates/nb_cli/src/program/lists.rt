@@ -63,7 +63,7 @@ static LEAVES: [&str; 4] = ["1", "1", "8", "32"];
 /// A body at a corner steps out of the box, or stays.
 static STEPS: [u64; 4] = [0, 1, u64::MAX, 0];
 
-/// The greatest speeds of a body in the box.
+/// The greatest speeds of an unescaped body.
 static GREATEST: [u64; 4] = [0, 1, SPEED_LIMIT - 1, u64::MAX - SPEED_LIMIT + 2];
 
 /// Speeds of half a box and of a whole one, and just below.

@@ -1,7 +1,7 @@
 //! What the program does over a host in memory: its bytes, its lines and its statuses.
 
 use super::*;
-use crate::Done;
+use nb_engine::Done;
 use nb_host::MemoryHost;
 use std::alloc::AllocError;
 use std::process::Abort;
@@ -285,7 +285,7 @@ fn leaves_the_box(rt: HostRuntime) -> Result<(), Fail> {
     let edge = (1 << 40) - 1;
     let table = [
         ([edge, 0, 0], [1, 0, 0]),
-        // the greatest speed of a body in the box
+        // the greatest speed of an unescaped body
         ([0, 0, 0], [2_305_843_009_213_693_951, 0, 0]),
         ([0, 0, 0], [0, -1, 0]),
     ];

@@ -4,8 +4,8 @@ ghost use Rattle.nb_host.specs.Page.{page_of};
 ghost use Rattle.std.specs.Prelude.{◌*◌, ◌+◌, ◌/◌, ◌%◌, ◌^◌, ◌==◌, ◌&&◌, nat_lt, if◌then◌else◌, Some, None, length, ◌≡◌, ◌≤◌, ◌<◌};
 ghost use Rattle.nb_model.specs.Valid.{AreInRange, IsInBox};
 ghost use Rattle.nb_walk.specs.Shown.{IsWalkable};
-ghost use Rattle.nb_walk.specs.Walk.{IsInRange};
-ghost use Rattle.nb_walk.specs.Pool.{AreInRange as AllInRange};
+ghost use Rattle.nb_walk.specs.Walk.{IsSumInRange};
+ghost use Rattle.nb_walk.specs.Pool.{AreSumsInRange};
 
 use super::*;
 use crate::{Pool, Visit, Walk};
@@ -14,8 +14,8 @@ use nb_model::HALF_BOX;
 /// The first answer of a walk that isn't Moved, within 64 visits.
 fn last_visit(walk: &mut Walk, params: &Params, tree: &Tree, lender: &Pages<'_>) -> Visit
     requires tree { IsWalkable params.now tree.now }
-    requires range { IsInRange params.now walk.old }
-    ensures range { IsInRange params.now walk.new }
+    requires range { IsSumInRange params.now walk.old }
+    ensures range { IsSumInRange params.now walk.new }
 {
     for _ in 0..64 {
         let visit = walk.visit(params, tree, lender);
@@ -160,8 +160,8 @@ fn a_pool_wants_its_pages(rt: HostRuntime) -> Result<(), Fail> {
 /// Begins a walk where there is room for one more.
 fn begin(pool: &mut Pool, params: &Params, target: At)
     requires target { IsInBox target }
-    requires range { AllInRange params.now pool.old.walks }
-    ensures range { AllInRange params.now pool.new.walks }
+    requires range { AreSumsInRange params.now pool.old.walks }
+    ensures range { AreSumsInRange params.now pool.new.walks }
 {
     if pool.len() < pool.walks() {
         pool.begin(target);
@@ -332,7 +332,7 @@ fn finish(
     bodies: &[u8; 5 * PAGE_SIZE],
 ) -> bool
     requires tree { IsWalkable params.now OCTANTS }
-    requires range { AllInRange params.now pool.old.walks }
+    requires range { AreSumsInRange params.now pool.old.walks }
 {
     let mut word = 1u64;
     for _ in 0..1000 {
@@ -354,8 +354,8 @@ fn finish(
 
 /// Begins a walk for each body.
 fn begin_many(pool: &mut Pool, params: &Params)
-    requires range { AllInRange params.now pool.old.walks }
-    ensures range { AllInRange params.now pool.new.walks }
+    requires range { AreSumsInRange params.now pool.old.walks }
+    ensures range { AreSumsInRange params.now pool.new.walks }
 {
     for i in 0..MANY {
         begin(pool, params, position(i));

@@ -4,7 +4,7 @@ use Rattle.nb_host.proofs.Callers.{stays_contents}
 use Rattle.nb_journal.specs.Form.{IsFresh}
 use Rattle.nb_journal.specs.Offsets.{journal_file}
 use Rattle.nb_engine.specs.Refusal.{NeedsNoCause}
-use Rattle.nb_cli.specs.Make.{IsThere}
+use Rattle.nb_cli.specs.Make.{IsMakeRefused}
 use Rattle.nb_cli.specs.Demo.{IsDemoRefused}
 use Rattle.nb_cli.proofs.demo_command.find_nothing.Goals as goal
 
@@ -19,6 +19,6 @@ returns-in_err-find_neither-clause-cause g c =
     elim (c.in_err-find_neither.ensures.cause told) [
       | inl needless ↦ inl needless
       | inr there ↦
-          inr (inr (inr (inl (fresh told, subst (λ (i : Image). IsThere i.file why) (stays_contents c.find.ensures.ran.leads) there))))
+          inr (inr (inr (inl (fresh told, subst (λ (i : Image). IsMakeRefused i.file why) (stays_contents c.find.ensures.ran.leads) there))))
     ] in
     rw handed_on cause

@@ -7,7 +7,7 @@ use Rattle.nb_engine.specs.Start.{started}
 use Rattle.nb_engine.specs.Sessions.{GoLeads}
 use Rattle.nb_engine.proofs.Callers.{durable_said}
 use Rattle.nb_cli.specs.Telling.{IsGoDone}
-use Rattle.nb_cli.specs.Demo.{IsOfDemo, go_behind_start}
+use Rattle.nb_cli.specs.Demo.{IsOfDemo, go_after_start}
 use Rattle.nb_cli.proofs.Sessions.{session_done}
 use Rattle.nb_cli.proofs.DemoCalls.{session_by, session_refused, session_then, session_unsaid, session_said}
 use Rattle.nb_cli.proofs.MadeStarts.{go_device}
@@ -19,19 +19,19 @@ use Rattle.nb_cli.proofs.demo_command.lead_made.Goals as goal
 
 pub returns-in-Err-clause-cause : goal.returns-in-Err-clause-cause
 returns-in-Err-clause-cause g c = λ told start is stands few.
-    subst NeedsNoCause (sym c.go_behind_start.ensures)
+    subst NeedsNoCause (sym c.go_after_start.ensures)
     (started_goes c.args.target start (g.H.Host.meaning.contents c.args.host.now) c.in-Err.why is stands few (c.in-Err.ensures.cause told))
 
 pub returns-in-Err-clause-refusals : goal.returns-in-Err-clause-refusals
 returns-in-Err-clause-refusals g c =
-    subst IsOfDemo (sym c.go_behind_start.ensures) (go_of_demo c.in-Err.why c.in-Err.ensures.refusals)
+    subst IsOfDemo (sym c.go_after_start.ensures) (go_of_demo c.in-Err.why c.in-Err.ensures.refusals)
 
 pub returns-in-Err-clause-ran : goal.returns-in-Err-clause-ran
 returns-in-Err-clause-ran g c =
     let m = g.H.Host.meaning in
     session_refused (session_by c.go.ensures.ran (go_unsaid m c.args.target c.go.ensures.ran.leads)) c.in-Err.is refl
-    (λ device. go_device c.in-Err.why (sym c.go_behind_start.ensures ∙ device))
-    (λ device. c.go_behind_start.ensures ∙ ap go_behind_start device)
+    (λ device. go_device c.in-Err.why (sym c.go_after_start.ensures ∙ device))
+    (λ device. c.go_after_start.ensures ∙ ap go_after_start device)
 
 -- ---- where its line isn't said
 

@@ -5,7 +5,7 @@ use Rattle.nb_engine.specs.Refusal.{NeedsNoCause, of_host}
 use Rattle.nb_engine.specs.Start.{Start, StartLeads}
 use Rattle.nb_engine.proofs.Callers.{durable_said}
 use Rattle.nb_cli.specs.Telling.{IsStartDone}
-use Rattle.nb_cli.specs.Demo.{IsOfDemo, start_behind_make}
+use Rattle.nb_cli.specs.Demo.{IsOfDemo, start_after_make}
 use Rattle.nb_cli.proofs.Sessions.{started_told, session_done}
 use Rattle.nb_cli.proofs.DemoCalls.{session_by, session_refused, session_doubted, session_then, session_unsaid, session_said}
 use Rattle.nb_cli.proofs.MadeStarts.{length-made, made_only, made_starts, start_device, start_of_demo}
@@ -17,19 +17,19 @@ use Rattle.nb_cli.proofs.demo_command.start_made.Goals.{then-begun-count-via-the
 
 pub returns-in-Err-clause-cause : goal.returns-in-Err-clause-cause
 returns-in-Err-clause-cause g c = λ told seed made fresh.
-    subst NeedsNoCause (sym c.start_behind_make.ensures)
+    subst NeedsNoCause (sym c.start_after_make.ensures)
     (made_starts seed c.args.count (g.H.Host.meaning.contents c.args.host.now).file c.in-Err.why made fresh (c.in-Err.ensures.cause told))
 
 pub returns-in-Err-clause-refusals : goal.returns-in-Err-clause-refusals
 returns-in-Err-clause-refusals g c =
-    subst IsOfDemo (sym c.start_behind_make.ensures) (start_of_demo c.in-Err.why c.in-Err.ensures.refusals)
+    subst IsOfDemo (sym c.start_after_make.ensures) (start_of_demo c.in-Err.why c.in-Err.ensures.refusals)
 
 pub returns-in-Err-clause-ran : goal.returns-in-Err-clause-ran
 returns-in-Err-clause-ran g c =
     let m = g.H.Host.meaning in
     session_refused (session_by c.start.ensures.ran (start_unsaid m c.start.ensures.ran.leads)) c.in-Err.is refl
-    (λ device. start_device c.in-Err.why (sym c.start_behind_make.ensures ∙ device))
-    (λ device. c.start_behind_make.ensures ∙ ap start_behind_make device)
+    (λ device. start_device c.in-Err.why (sym c.start_after_make.ensures ∙ device))
+    (λ device. c.start_after_make.ensures ∙ ap start_after_make device)
 
 -- ---- where its line isn't said
 

@@ -1,9 +1,9 @@
 use Rattle.std.proofs.Common.{◌≡◌, List, [], sym, subst, ap, ◌∙◌, arith, rules}
 use Rattle.nb_model.specs.declared.body.Body.{Body}
-use Rattle.nb_host.specs.Meaning.{Tally}
+use Rattle.nb_host.specs.Meaning.{CallTally}
 use Rattle.nb_host.proofs.Callers.{syncing_none}
 use Rattle.nb_format.specs.Images.{IsBeingWritten, AddsBody}
-use Rattle.nb_format.specs.Writer.{Plan}
+use Rattle.nb_format.specs.Writer.{SnapshotPlan}
 use Rattle.nb_format.proofs.Callers.{being_added, add_leads}
 use Rattle.nb_cli.specs.Make.{made_bodies}
 use Rattle.nb_cli.proofs.Making.{made_plan, length-made, made-next, leads_not_added, leads_closed, finished_since}
@@ -12,7 +12,7 @@ use Rattle.nb_cli.proofs.make_command.write_bodies.Goals as goal
 pub add-requires-clause-room : goal.add-requires-clause-room
 add-requires-clause-room g c =
     let being = c.loop.invariant.being in
-    omega (arith, being.filled.added, length-made c.args.seed c.loop.counter, ap (λ (p : Plan). p.count) being.planned, c.loop-test.true)
+    omega (arith, being.filled.added, length-made c.args.seed c.loop.counter, ap (λ (p : SnapshotPlan). p.count) being.planned, c.loop-test.true)
 
 pub returns-in_err-filling-2-clause-ran : goal.returns-in_err-filling-2-clause-ran
 returns-in_err-filling-2-clause-ran g c =
@@ -48,15 +48,15 @@ loop-preserved g c =
           let same : id ≡ c.next_body.result.id = cc in
           omega (arith, same, c.next_body.ensures.id, kept.generated.count_is);
       faults = c.add.ensures.ran.spared (search rules) ∙ kept.faults;
-      refused = ap (λ (t : Tally). t.refused_says) c.add.ensures.ran.tally ∙ kept.refused;
-      synced = λ told. ap (λ (t : Tally). t.syncs) c.add.ensures.ran.tally ∙ kept.synced told;
+      refused = ap (λ (t : CallTally). t.refused_says) c.add.ensures.ran.tally ∙ kept.refused;
+      synced = λ told. ap (λ (t : CallTally). t.syncs) c.add.ensures.ran.tally ∙ kept.synced told;
     }
 
 pub close-requires : goal.close-requires
 close-requires g c =
     let being = c.loop.invariant.being in
     let all : c.loop.counter ≡ c.args.count = omega arith in
-    omega (arith, being.filled.added, length-made c.args.seed c.loop.counter, ap (λ (p : Plan). p.count) being.planned, all)
+    omega (arith, being.filled.added, length-made c.args.seed c.loop.counter, ap (λ (p : SnapshotPlan). p.count) being.planned, all)
 
 pub returns-in_err-close-clause-ran : goal.returns-in_err-close-clause-ran
 returns-in_err-close-clause-ran g c =

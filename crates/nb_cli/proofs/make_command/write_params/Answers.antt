@@ -2,7 +2,7 @@ use Rattle.std.proofs.Common.{◌≡◌, length, refl, sym, ap, ◌∙◌, arith
 use Rattle.nb_host.proofs.Callers.{leads_none, becomes_itself}
 use Rattle.nb_format.specs.ParamsText.{canonical_line}
 use Rattle.nb_engine.specs.Files.{params_file}
-use Rattle.nb_cli.specs.Done.{BecomesAny}
+use Rattle.nb_cli.specs.OnceAnswer.{BecomesAny}
 use Rattle.nb_cli.proofs.Making.{joined, joined-none, joined-six, text_more, length_more, params_then}
 use Rattle.nb_cli.proofs.make_command.write_params.Goals as goal
 

@@ -3,7 +3,7 @@ use Rattle.nb_host.specs.Image.{FileBecomes}
 use Rattle.nb_host.specs.Meaning.{Leads}
 use Rattle.nb_format.specs.ParamsText.{canonical_line}
 use Rattle.nb_engine.specs.Files.{params_file}
-use Rattle.nb_cli.specs.Done.{BecomesAny}
+use Rattle.nb_cli.specs.OnceAnswer.{BecomesAny}
 use Rattle.nb_cli.proofs.Making.{joined}
 use Rattle.nb_cli.proofs.make_command.write_params.Given as goal
 

@@ -2,7 +2,7 @@ use Rattle.std.proofs.Common.{◌≡◌, ◌+◌, IsTrue, length, take}
 use Rattle.nb_host.specs.Image.{FileBecomes}
 use Rattle.nb_host.specs.Meaning.{Leads}
 use Rattle.nb_cli.specs.Once.{once_file}
-use Rattle.nb_cli.specs.Done.{BecomesAny}
+use Rattle.nb_cli.specs.OnceAnswer.{BecomesAny}
 use Rattle.nb_cli.proofs.Writing.{HasTaken}
 use Rattle.nb_cli.proofs.once_command.write_bodies.Given as goal
 

@@ -1,7 +1,7 @@
 use Rattle.std.proofs.Common.{rules, ◌≡◌, ◌+◌, inr, Ok, Err, ◌∙◌, IsTrue, IsOk, subst}
 use Rattle.nb_host.specs.declared.host.Channel.TheVariants as channels
 use Rattle.nb_host.specs.Image.{Image}
-use Rattle.nb_host.proofs.Callers.{stays_contents, syncing_then, leads_before}
+use Rattle.nb_host.proofs.Callers.{stays_contents, syncing_then}
 use Rattle.nb_engine.specs.Refusal.{of_host}
 use Rattle.nb_engine.proofs.Callers.{durable_said}
 use Rattle.nb_cli.specs.declared.words.Job.TheVariants as job

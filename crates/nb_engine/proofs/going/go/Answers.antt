@@ -1,7 +1,7 @@
 use Rattle.std.proofs.Common.{rules, ◌≡◌, ◌⊎◌, inl, inr, Err, IsTrue, IsOk, refl, sym, ap, subst, ◌∙◌}
 use Rattle.nb_journal.specs.Counters.{Counters}
 use Rattle.nb_engine.specs.Refusal.{NeedsNoCause, of_host}
-use Rattle.nb_engine.specs.Sessions.{IsNoLeg, IsGoRefused, IsOfLeg, IsBroughtUp, IsSlotSpoilt}
+use Rattle.nb_engine.specs.Sessions.{IsNoLeg, IsGoRefused, IsOfLeg, IsBroughtUp, IsSlotDamaged}
 use Rattle.nb_engine.proofs.Departures.{can_go, led_there, appended, spoilt_leg, went_on, led_on, no_leg_steady, shown_no_leg, free_no_leg, run_no_leg, settled_journal}
 use Rattle.nb_engine.proofs.Frames.{inside, ok_isnt, free_by_host, session_synced, session_then, session_by, session_handed, session_ended, session_host}
 use Rattle.nb_engine.proofs.GoingOn.{go_opened, next_leg}
@@ -67,7 +67,7 @@ returns-in_err-journal-2-clause-cause g c =
     let handed_on : c.from_residual-in_err-journal-2.result ≡ Err (of_host error) = search rules in
     let free : IsTrue g.H.Host.meaning.tells → NeedsNoCause (of_host error)
     ⊎ IsGoRefused c.args.target (g.H.Host.meaning.contents c.args.host.now).file (of_host error)
-    ⊎ IsSlotSpoilt (g.H.Host.meaning.contents c.args.host.now).file (of_host error) = λ tells. inl (free_by_host error) in
+    ⊎ IsSlotDamaged (g.H.Host.meaning.contents c.args.host.now).file (of_host error) = λ tells. inl (free_by_host error) in
     rw handed_on free
 
 pub returns-in_err-journal-2-clause-ran : goal.returns-in_err-journal-2-clause-ran
@@ -95,7 +95,7 @@ returns-in_err-journal-3-clause-cause g c =
     (λ same. c.if-target-time.false (same ∙ sym c.time.ensures)) (c.no_leg.ensures.none (search rules)) in
     let cause : IsTrue g.H.Host.meaning.tells → NeedsNoCause why
     ⊎ IsGoRefused c.args.target (g.H.Host.meaning.contents c.args.host.now).file why
-    ⊎ IsSlotSpoilt (g.H.Host.meaning.contents c.args.host.now).file why = λ tells. elim c.in_err-journal-3.ensures.cause [
+    ⊎ IsSlotDamaged (g.H.Host.meaning.contents c.args.host.now).file why = λ tells. elim c.in_err-journal-3.ensures.cause [
       | inl free ↦ inl free
       | inr spoilt ↦ inr (inr (spoilt_leg g.H.Host.meaning c.args.target c.in_ok-journal.field-0.journal c.requires.durable
           c.in_ok-journal.ensures.found c.in_ok-journal.ensures.ran.leads c.in_ok-journal.ensures.images

@@ -3,8 +3,8 @@ use Rattle.nb_journal.specs.Counters.{Counters}
 use Rattle.nb_journal.specs.Offsets.{journal_file}
 use Rattle.nb_journal.proofs.Callers.{found_answers}
 use Rattle.nb_engine.specs.Refusal.{NeedsNoCause}
-use Rattle.nb_engine.specs.Sessions.{IsSlotSpoilt}
-use Rattle.nb_engine.specs.Shown.{IsNotShown}
+use Rattle.nb_engine.specs.Sessions.{IsSlotDamaged}
+use Rattle.nb_engine.specs.Shown.{IsShowRefused}
 use Rattle.nb_engine.proofs.Frames.{ok_isnt, session_then, session_by, session_handed, session_ended}
 use Rattle.nb_engine.proofs.GoingOn.{resume_opened}
 use Rattle.nb_engine.proofs.Resuming.{resumed, led_to_end, spoilt_open}
@@ -22,8 +22,8 @@ returns-in_err-journal-2-clause-cause g c =
     let why = c.in_err-journal-2.field-0.0 in
     let handed_on : c.from_residual-in_err-journal-2.result ≡ Err why = search rules in
     let cause : IsTrue g.H.Host.meaning.tells → NeedsNoCause why
-    ⊎ IsNotShown ((g.H.Host.meaning.contents c.args.host.now).file journal_file) why
-    ⊎ IsSlotSpoilt (g.H.Host.meaning.contents c.args.host.now).file why = λ tells. elim c.in_err-journal-2.ensures.cause [
+    ⊎ IsShowRefused ((g.H.Host.meaning.contents c.args.host.now).file journal_file) why
+    ⊎ IsSlotDamaged (g.H.Host.meaning.contents c.args.host.now).file why = λ tells. elim c.in_err-journal-2.ensures.cause [
       | inl free ↦ inl free
       | inr spoilt ↦ inr (inr (spoilt_open g.H.Host.meaning c.in_ok-journal.field-0.journal c.in_ok-journal.ensures.found
           c.in_ok-journal.ensures.ran.leads tells spoilt))

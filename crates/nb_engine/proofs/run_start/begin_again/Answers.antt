@@ -8,8 +8,8 @@ use Rattle.nb_engine.specs.declared.refusal.Refusal.{Refusal}
 use Rattle.nb_engine.specs.Files.{init_file}
 use Rattle.nb_engine.specs.Reading.{IsPlanned}
 use Rattle.nb_engine.specs.Refusal.{NeedsNoCause}
-use Rattle.nb_engine.specs.Snapshots.{IsBroken}
-use Rattle.nb_engine.specs.Start.{place_of_body}
+use Rattle.nb_engine.specs.Snapshots.{IsPageDamaged}
+use Rattle.nb_engine.specs.Start.{init_record_name}
 use Rattle.nb_engine.proofs.SecondReadings.{init_broken, second_cause, refused_never, same_count, same_time}
 use Rattle.nb_engine.proofs.run_start.begin_again.Goals as goal
 use Rattle.nb_engine.proofs.run_start.begin_again.Goals.{then-count-plan-via-then-count-plan, then-count-plan-via-else-count-plan+then-time-plan}
@@ -21,8 +21,8 @@ returns-in-Err-clause-cause g c =
     let m = g.H.Host.meaning in
     let plan = c.args.plan.now in
     let Holds : List Body → Type 0 = λ bodies. IsPlanned plan bodies ((m.contents c.args.host.now).file init_file) in
-    let At : PageName → Type 0 = λ page. page ≡ place_of_body 0 in
-    subst (λ (why : Refusal). NeedsNoCause why ⊎ IsBroken m At Holds why) (sym c.second_refusal.ensures)
+    let At : PageName → Type 0 = λ page. page ≡ init_record_name 0 in
+    subst (λ (why : Refusal). NeedsNoCause why ⊎ IsPageDamaged m At Holds why) (sym c.second_refusal.ensures)
     (second_cause At Holds c.in-Err.error 0 (λ by. refl)
     (λ by told bodies planned. refused_never (c.in-Err.ensures.first told by) bodies plan.time planned.snapshot))
 
@@ -43,6 +43,6 @@ returns-then-count-plan-clause-cause g c =
           let fits : time_of reader < 2 ^ 64 = subst (λ (n : ℕ). n < 2 ^ 64) w.time.ensures w.time.type_inv in
           absurd (w.if-time-plan.true (w.time.ensures ∙ same_time fits few read planned.snapshot))
     ] in
-    let At : PageName → Type 0 = λ page. page ≡ place_of_body 0 in
-    subst (λ (why : Refusal). NeedsNoCause why ⊎ IsBroken m At Holds why) (sym c.damaged_init.ensures)
+    let At : PageName → Type 0 = λ page. page ≡ init_record_name 0 in
+    subst (λ (why : Refusal). NeedsNoCause why ⊎ IsPageDamaged m At Holds why) (sym c.damaged_init.ensures)
     (inr (init_broken At Holds 0 refl never))

@@ -13,7 +13,7 @@ use Rattle.nb_tick.specs.Slots.{drifted_file}
 use Rattle.nb_engine.specs.declared.refusal.Refusal.{Refusal}
 use Rattle.nb_engine.specs.Files.{init_file}
 use Rattle.nb_engine.specs.Refusal.{NeedsNoCause, of_order, of_second_reading}
-use Rattle.nb_engine.specs.Snapshots.{IsBroken}
+use Rattle.nb_engine.specs.Snapshots.{IsPageDamaged}
 use Rattle.nb_engine.specs.Start.{IsCopyEnd}
 use Rattle.nb_engine.proofs.CachedCalls.{went_none, went_on, went_to, ran_reading}
 use Rattle.nb_engine.proofs.Reading.{HasGiven-none, not_ended}
@@ -43,7 +43,7 @@ returns-in-Err-clause-cause g c =
     × (seen m c.args.cache.now c.args.host.now drifted_file ≡ []) × ((time : ℕ) × IsSnapshot file bodies time) in
     let At : PageName → Type 0 = IsCopyEnd m c.args.reader c.args.cache.now c.args.host.now in
     let count = c.loop-body.census.count in
-    subst (λ (why : Refusal). NeedsNoCause why ⊎ IsBroken m At Holds why) (sym c.second_refusal.ensures)
+    subst (λ (why : Refusal). NeedsNoCause why ⊎ IsPageDamaged m At Holds why) (sym c.second_refusal.ensures)
     (second_cause At Holds c.in-Err.error count
     (λ by. record {
       index = count;
@@ -117,7 +117,7 @@ returns-in_err-push_body-clause-cause g c =
     let error = c.in_err-push_body.field-0.0 in
     let handed_on : c.from_residual.result ≡ Err (of_order error) = search rules in
     let At : PageName → Type 0 = IsCopyEnd m c.args.reader c.args.cache.now c.args.host.now in
-    let cause : NeedsNoCause (of_order error) ⊎ IsBroken m At Holds (of_order error) =
+    let cause : NeedsNoCause (of_order error) ⊎ IsPageDamaged m At Holds (of_order error) =
     order_cause At Holds error (λ name is.
     let bad = c.push_body.ensures.damaged name (c.in_err-push_body.was ∙ ap Err is) in (
       record {

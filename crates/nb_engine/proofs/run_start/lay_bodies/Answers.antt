@@ -7,7 +7,7 @@ use Rattle.nb_engine.specs.declared.init_file.Census.{Census}
 use Rattle.nb_engine.specs.Files.{init_file}
 use Rattle.nb_engine.specs.Reading.{IsPlanned}
 use Rattle.nb_engine.specs.Refusal.{NeedsNoCause, of_cache, of_order}
-use Rattle.nb_engine.specs.Snapshots.{IsBroken}
+use Rattle.nb_engine.specs.Snapshots.{IsPageDamaged}
 use Rattle.nb_engine.specs.Start.{IsReadPlace, IsLaidPlace}
 use Rattle.nb_engine.proofs.CachedCalls.{went_none, went_on, went_to, went_as, among_none, among_of}
 use Rattle.nb_engine.proofs.SecondReadings.{order_is_fault, cache_is_fault, cause_more, order_cause}
@@ -28,7 +28,7 @@ returns-in_err-census-clause-cause g c =
     let Those = IsLaidPlace plan.census.count in
     let why = c.in_err-census.field-0.0 in
     let handed_on : c.from_residual.result ≡ Err why = search rules in
-    let cause : NeedsNoCause why ⊎ IsBroken m Those Holds why =
+    let cause : NeedsNoCause why ⊎ IsPageDamaged m Those Holds why =
     cause_more These Those Holds Holds c.in_err-census.ensures.cause (λ page at. inl at) (λ told bodies holds. holds) in
     rw handed_on cause
 
@@ -43,7 +43,7 @@ returns-in_err-reorder-clause-cause g c =
     let error = c.in_err-reorder.field-0.0 in
     let handed_on : c.from_residual-in_err-reorder.result ≡ Err (of_order error) = search rules in
     let At = IsLaidPlace plan.census.count in
-    let cause : NeedsNoCause (of_order error) ⊎ IsBroken m At Holds (of_order error) =
+    let cause : NeedsNoCause (of_order error) ⊎ IsPageDamaged m At Holds (of_order error) =
     order_cause At Holds error (λ name is.
     let bad = c.reorder.ensures.damaged name (c.in_err-reorder.was ∙ ap Err is) in
     let read : At name = elim bad.file [ inl from ↦ inr (inl from) | inr to ↦ inr (inr (to ∙ to_is)) ] in (

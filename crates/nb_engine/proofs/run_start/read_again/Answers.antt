@@ -11,8 +11,8 @@ use Rattle.nb_engine.specs.declared.refusal.Refusal.{Refusal}
 use Rattle.nb_engine.specs.Files.{init_file}
 use Rattle.nb_engine.specs.Reading.{IsPlanned}
 use Rattle.nb_engine.specs.Refusal.{NeedsNoCause}
-use Rattle.nb_engine.specs.Snapshots.{IsBroken}
-use Rattle.nb_engine.specs.Start.{place_of_body, IsCopyEnd, IsReadPlace}
+use Rattle.nb_engine.specs.Snapshots.{IsPageDamaged}
+use Rattle.nb_engine.specs.Start.{init_record_name, IsCopyEnd, IsReadPlace}
 use Rattle.nb_engine.proofs.Beginnings.{header_now}
 use Rattle.nb_engine.proofs.CachedCalls.{went_none, went_on, went_to, went_as, ran_reading}
 use Rattle.nb_engine.proofs.SecondReadings.{init_broken, cause_more, end_read, read_only_none, read_only_kept, init_stays, init_again, seen_still, read_same, census_same, censuses_same, censuses_differ}
@@ -28,9 +28,9 @@ returns-in_err-reader-clause-cause g c =
     let Few : List Body → Type 0 = λ bodies. IsPlanned plan bodies ((m.contents c.empty.new.host).file init_file) in
     let More : List Body → Type 0 = λ bodies. IsPlanned plan bodies ((m.contents c.args.host.now).file init_file) in
     let handed_on : c.from_residual-in_err-reader.result ≡ Err why = search rules in
-    let These : PageName → Type 0 = λ page. page ≡ place_of_body 0 in
+    let These : PageName → Type 0 = λ page. page ≡ init_record_name 0 in
     let Those = IsReadPlace plan.census.count in
-    let cause : NeedsNoCause why ⊎ IsBroken m Those More why =
+    let cause : NeedsNoCause why ⊎ IsPageDamaged m Those More why =
     cause_more These Those Few More c.in_err-reader.ensures.cause (λ page at. inl at) (λ told bodies planned.
     let same = init_stays (read_only_none c.args.cache.now c.requires.written) c.empty.ensures.ran.writes told in
     subst (IsPlanned plan bodies) (sym same) planned) in
@@ -55,7 +55,7 @@ returns-in_err-census-clause-cause g c =
     let handed_on : c.from_residual-in_err-census.result ≡ Err why = search rules in
     let These = IsCopyEnd m c.in_ok-reader.reader c.empty.new.self c.begin_again.new.host in
     let Those = IsReadPlace plan.census.count in
-    let cause : NeedsNoCause why ⊎ IsBroken m Those More why =
+    let cause : NeedsNoCause why ⊎ IsPageDamaged m Those More why =
     cause_more These Those Few More c.in_err-census.ensures.cause (end_read c.in_ok-reader.ensures.count) (λ told bodies planned.
     let same = init_again (read_only_none c.args.cache.now c.requires.written) c.empty.ensures.ran.writes reads told in (
       header_now (stays_contents reads) (c.in_ok-reader.ensures.header told),
@@ -88,7 +88,7 @@ returns-then-ne-clause-cause g c =
     (seen_still c.empty.new.self drifted_file reads ∙ c.in_ok-empty.ensures.view told) in
     censuses_differ c.in_ok-census.census plan.census (census_same same planned copied.2 copied.1) c.if-ne.ensures in
     let At = IsReadPlace plan.census.count in
-    subst (λ (why : Refusal). NeedsNoCause why ⊎ IsBroken m At Holds why) (sym c.damaged_init.ensures)
+    subst (λ (why : Refusal). NeedsNoCause why ⊎ IsPageDamaged m At Holds why) (sym c.damaged_init.ensures)
     (inr (init_broken At Holds 0 (inl refl) never))
 
 pub returns-then-ne-clause-ran : goal.returns-then-ne-clause-ran

@@ -1,5 +1,5 @@
 use Rattle.std.proofs.Common.{◌≡◌, ◌⊎◌, inl, inr, IsTrue, Err, refl, ap, ◌∙◌, rules}
-use Rattle.nb_engine.specs.declared.run_start.Plan.{Plan}
+use Rattle.nb_engine.specs.declared.run_start.StartPlan.{StartPlan}
 use Rattle.nb_engine.specs.Refusal.{NeedsNoCause, of_host}
 use Rattle.nb_engine.specs.Start.{IsStartRefused}
 use Rattle.nb_engine.proofs.Frames.{session_syncing, session_cached, session_then, free_by_host}
@@ -112,8 +112,8 @@ returns-clause-begun g c = λ told.
       opened.0,
       opened.1,
       record {
-        count = ap (λ (p : Plan). p.census.count) opened.2;
-        time = ap (λ (p : Plan). p.time) opened.2;
+        count = ap (λ (p : StartPlan). p.census.count) opened.2;
+        time = ap (λ (p : StartPlan). p.time) opened.2;
       },
       opened.3,
     )

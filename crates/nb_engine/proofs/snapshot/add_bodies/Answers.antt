@@ -3,7 +3,7 @@ use Rattle.nb_model.specs.declared.body.Body.{Body}
 use Rattle.nb_cache.specs.View.{seen}
 use Rattle.nb_tick.specs.Slots.{sorted_file}
 use Rattle.nb_engine.specs.Refusal.{of_host, of_order, NeedsNoCause}
-use Rattle.nb_engine.specs.Snapshots.{HoldsByIds, IsEnd, IsBroken}
+use Rattle.nb_engine.specs.Snapshots.{HoldsByIds, IsEnd, IsPageDamaged}
 use Rattle.nb_engine.proofs.Frames.{session_ran, session_cached, session_by, session_ended}
 use Rattle.nb_engine.proofs.SnapshotSteps.{order_rose, order_fell, host_rose, host_fell, order_cause, none_but, settled_leads, sorted_agrees, file_agrees, well_then, is_ok, adding_none, adding_read, unfinished_read, read_there, record_there, not_behind, no_body, adding_file, adding_added, unfinished_added, all_added}
 use Rattle.nb_engine.proofs.snapshot.add_bodies.Goals as goal
@@ -29,9 +29,9 @@ returns-in_err-body-clause-cause g c =
     let Holds = λ (bodies : List Body). HoldsByIds c.args.count bodies (seen m c.args.cache.now c.args.host.now sorted_file) in
     let handed_on : c.from_residual.result ≡ Err (of_order error) = search rules in
     let At = IsEnd m c.args.count c.args.cache.now c.args.host.now in
-    let why : NeedsNoCause (of_order error) ⊎ IsBroken m At Holds (of_order error) =
+    let why : NeedsNoCause (of_order error) ⊎ IsPageDamaged m At Holds (of_order error) =
     order_cause error (λ name is.
-    subst (IsBroken m At Holds) (sym (ap of_order is))
+    subst (IsPageDamaged m At Holds) (sym (ap of_order is))
     (no_body c.loop-index.invariant c.loop-index-test.true name (c.body_at.ensures.damaged name (c.in_err-body.was ∙ ap Err is)))) in
     rw handed_on why
 

@@ -4,8 +4,8 @@ use Rattle.std.proofs.lemmas.Result.{on_ok_weaker, IfErr-weaker}
 use Rattle.nb_host.proofs.Callers.{leads_none}
 use Rattle.nb_engine.specs.Refusal.{NeedsNoCause, of_host}
 use Rattle.nb_engine.specs.Represents.{snap_of}
-use Rattle.nb_engine.specs.Snapshots.{snapshot_files, IsSnapshotPage, IsBroken}
-use Rattle.nb_engine.specs.Steps.{IsSpoilt}
+use Rattle.nb_engine.specs.Snapshots.{snapshot_files, IsSnapshotPage, IsPageDamaged}
+use Rattle.nb_engine.specs.Steps.{IsStateDamaged}
 use Rattle.nb_engine.proofs.Frames.{session_ran, session_by}
 use Rattle.nb_engine.proofs.SnapshotSteps.{host_rose, host_fell, stays_agrees, well_ran, well_then, is_ok, finished_at, SlotHolds}
 use Rattle.nb_engine.proofs.Finishing.{played_none, images_none, complete_undue, complete_found, images_written, played_written, spoilt, on_ok_both}
@@ -97,8 +97,8 @@ returns-clause-cause g c =
     let m = g.H.Host.meaning in
     let journal = c.args.journal.now in
     IfErr-weaker c.write_snapshot.result
-    (λ why. NeedsNoCause why ⊎ IsBroken m (IsSnapshotPage journal.progress.ticks) (SlotHolds m journal c.snap_finished.new.host) why)
-    (λ why. NeedsNoCause why ⊎ IsSpoilt m journal c.args.host.now why)
+    (λ why. NeedsNoCause why ⊎ IsPageDamaged m (IsSnapshotPage journal.progress.ticks) (SlotHolds m journal c.snap_finished.new.host) why)
+    (λ why. NeedsNoCause why ⊎ IsStateDamaged m journal c.args.host.now why)
     (spoilt c.snap_finished.ensures.ran.leads) c.write_snapshot.ensures.cause
 
 pub returns-clause-ran : goal.returns-clause-ran

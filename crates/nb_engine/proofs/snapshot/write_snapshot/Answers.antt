@@ -2,7 +2,7 @@ use Rattle.std.proofs.Common.{◌≡◌, ◌⊎◌, Err, sym, ap, subst, ◌∙�
 use Rattle.nb_format.specs.Writer.{plan_of, fresh_plan}
 use Rattle.nb_tick.specs.Slots.{slot_of}
 use Rattle.nb_engine.specs.Refusal.{of_host, of_order, NeedsNoCause}
-use Rattle.nb_engine.specs.Snapshots.{snapshot_files, IsSnapshotPage, IsBroken}
+use Rattle.nb_engine.specs.Snapshots.{snapshot_files, IsSnapshotPage, IsPageDamaged}
 use Rattle.nb_engine.proofs.Frames.{session_syncing, session_cached, session_by}
 use Rattle.nb_engine.proofs.SnapshotSteps.{order_rose, order_fell, host_rose, host_fell, order_cause, sorted_but, settled_leads, settled_file, sorted_agrees, file_agrees, well_cached, well_syncing, well_then, is_ok, refused_as, SlotHolds, snap_plan, planned_of, high_plan, ordered, unordered, begun, images_unordered, images_not_begun, images_unfinished, filled, images_closed, closed_snapshot, broken_slot, sorted_among, plan_among, session_adds}
 use Rattle.nb_engine.proofs.snapshot.write_snapshot.Goals as goal
@@ -24,9 +24,9 @@ returns-in_err-reorder-clause-cause g c =
     let Holds = SlotHolds m journal c.args.host.now in
     let handed_on : c.from_residual.result ≡ Err (of_order error) = search rules in
     let At = IsSnapshotPage journal.progress.ticks in
-    let why : NeedsNoCause (of_order error) ⊎ IsBroken m At Holds (of_order error) =
+    let why : NeedsNoCause (of_order error) ⊎ IsPageDamaged m At Holds (of_order error) =
     order_cause error (λ name is.
-    subst (IsBroken m At Holds) (sym (ap of_order is))
+    subst (IsPageDamaged m At Holds) (sym (ap of_order is))
     (unordered journal slot c.count-count.ensures c.requires name
     (c.reorder.ensures.damaged name (c.in_err-reorder.was ∙ ap Err is)))) in
     rw handed_on why
@@ -119,7 +119,7 @@ returns-in_err-filling-2-clause-cause g c =
     let error = c.in_err-filling-2.field-0.0 in
     let Holds = SlotHolds m journal c.args.host.now in
     let handed_on : c.from_residual-in_err-filling-2.result ≡ Err error = search rules in
-    let why : NeedsNoCause error ⊎ IsBroken m (IsSnapshotPage journal.progress.ticks) Holds error =
+    let why : NeedsNoCause error ⊎ IsPageDamaged m (IsSnapshotPage journal.progress.ticks) Holds error =
     broken_slot c.count-count.ensures start error c.in_err-filling-2.ensures.cause in
     rw handed_on why
 

@@ -1,7 +1,7 @@
 use Rattle.std.proofs.Common.{◌≡◌, ◌⊎◌, inl, inr, Err, refl, ap, ◌∙◌, arith, rules}
 use Rattle.nb_tick.specs.Slots.{slot_of}
 use Rattle.nb_engine.specs.Refusal.{NeedsNoCause, of_host, of_tick}
-use Rattle.nb_engine.specs.Steps.{IsSpoilt}
+use Rattle.nb_engine.specs.Steps.{IsStateDamaged}
 use Rattle.nb_engine.proofs.Filling.{LeadsBy, unwritten_among, tick_handed, host_handed, ok_handed, host_cause, some_ticks, tick_cause, tick_ran, fill_ran, settled_then, next_left, filled}
 use Rattle.nb_engine.proofs.ticking.fill.Goals as goal
 use Rattle.nb_engine.proofs.ticking.fill.Goals.{then-time-target, else-time-target}
@@ -15,7 +15,7 @@ returns-in_err-gone-clause-cause g c =
     let journal = c.args.journal.now in
     let error = c.in_err-gone.field-0.0 in
     let handed_on : c.from_residual.result ≡ Err (of_tick error) = search rules in
-    let why : NeedsNoCause (of_tick error) ⊎ IsSpoilt m journal c.args.host.now (of_tick error) =
+    let why : NeedsNoCause (of_tick error) ⊎ IsStateDamaged m journal c.args.host.now (of_tick error) =
     tick_cause m journal c.params-params.result c.params-params.ensures.value c.count.result c.count.ensures c.of.result
     (c.of.ensures ∙ ap slot_of c.ticks-ticks.ensures) c.args.host.now error
     (λ page is. c.tick.ensures.damaged page (c.in_err-gone.was ∙ ap Err is)) in
@@ -33,7 +33,7 @@ pub returns-in_err-clear-clause-cause : goal.returns-in_err-clear-clause-cause
 returns-in_err-clear-clause-cause g c =
     let error = c.in_err-clear.field-0.0 in
     let handed_on : c.from_residual-in_err-clear.result ≡ Err (of_host error) = search rules in
-    let why : NeedsNoCause (of_host error) ⊎ IsSpoilt g.H.Host.meaning c.args.journal.now c.args.host.now (of_host error) =
+    let why : NeedsNoCause (of_host error) ⊎ IsStateDamaged g.H.Host.meaning c.args.journal.now c.args.host.now (of_host error) =
     inl (host_cause error) in
     rw handed_on why
 

@@ -1,7 +1,7 @@
 use Rattle.std.proofs.Common.{◌≡◌, ℕ, ◌+◌, ◌<◌, IsOk, Err, sym, subst, ◌∙◌, arith, rules}
-use Rattle.nb_engine.specs.Frame.{KeepsApart, RanSession}
+use Rattle.nb_engine.specs.Frame.{KeepsOutsideRun, RanSession}
 use Rattle.nb_engine.specs.Sessions.{ticks_left}
-use Rattle.nb_engine.specs.Steps.{played, HasPlayed, IsUpToDate}
+use Rattle.nb_engine.specs.Steps.{played, HasPlayed, HoldsDueSnapshots}
 use Rattle.nb_engine.proofs.Running.{run_none, run_then, run_images, run_more, images_within, left_none}
 use Rattle.nb_engine.proofs.ticking.run_leg.Goals as goal
 
@@ -16,7 +16,7 @@ returns-in_err-journal-clause-images g c = λ h at up.
 pub returns-in_err-journal-clause-ran : goal.returns-in_err-journal-clause-ran
 returns-in_err-journal-clause-ran g c =
     let handed_on : c.from_residual.result ≡ Err c.in_err-journal.field-0.0 = search rules in
-    subst (λ r. RanSession g.H.Host.meaning KeepsApart c.args.host.now c.step.new.host r)
+    subst (λ r. RanSession g.H.Host.meaning KeepsOutsideRun c.args.host.now c.step.new.host r)
     (c.in_err-journal.was ∙ sym handed_on) (run_then c.loop.invariant c.step.ensures.ran)
 
 pub loop-preserved : goal.loop-preserved
@@ -46,7 +46,7 @@ pub returns-clause-run : goal.returns-clause-run
 returns-clause-run g c = λ h at up.
     let m = g.H.Host.meaning in
     let all : c.loop.counter ≡ ticks_left c.args.journal.progress = omega arith in
-    subst (λ (n : ℕ). HasPlayed m n h (m.contents c.args.host.now) c.loop.journal c.loop.host × IsUpToDate m (played n h) c.loop.host)
+    subst (λ (n : ℕ). HasPlayed m n h (m.contents c.args.host.now) c.loop.journal c.loop.host × HoldsDueSnapshots m (played n h) c.loop.host)
     all (c.loop.invariant.plays h at up)
 
 pub returns-clause-images : goal.returns-clause-images

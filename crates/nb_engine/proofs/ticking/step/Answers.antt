@@ -1,6 +1,6 @@
 use Rattle.std.proofs.Common.{◌≡◌, ◌⊎◌, Err, rules}
 use Rattle.nb_engine.specs.Refusal.{NeedsNoCause}
-use Rattle.nb_engine.specs.Steps.{IsSpoilt}
+use Rattle.nb_engine.specs.Steps.{IsStateDamaged}
 use Rattle.nb_engine.proofs.Frames.{session_as}
 use Rattle.nb_engine.proofs.Stepping.{step_frame, state_kept, still_spoilt, step_images, step_done}
 use Rattle.nb_engine.proofs.TickImages.{same_frame}
@@ -20,7 +20,7 @@ pub returns-in_err-finish-clause-cause : goal.returns-in_err-finish-clause-cause
 returns-in_err-finish-clause-cause g c =
     let error = c.in_err-finish.field-0.0 in
     let handed_on : c.from_residual-in_err-finish.result ≡ Err error = search rules in
-    let why : NeedsNoCause error ⊎ IsSpoilt g.H.Host.meaning c.args.journal c.args.host.now error =
+    let why : NeedsNoCause error ⊎ IsStateDamaged g.H.Host.meaning c.args.journal c.args.host.now error =
     still_spoilt g.H.Host.meaning c.args.journal c.in_ok-next.next c.args.host.now c.tick_once.new.host c.finish.new.host
     error c.in_ok-next.ensures.next c.in_err-finish.ensures.cause in
     rw handed_on why

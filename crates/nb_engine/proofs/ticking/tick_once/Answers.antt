@@ -1,10 +1,10 @@
 use Rattle.std.proofs.Common.{◌≡◌, ◌⊎◌, ◌+◌, inl, suc, Err, Ok, Result, refl, ap, ◌∙◌, arith, rules}
 use Rattle.nb_journal.specs.declared.entry.Entry.TheVariants.{Tick}
 use Rattle.nb_journal.specs.Counters.{counters_after}
-use Rattle.nb_engine.specs.Frame.{KeepsApart, RanSession}
+use Rattle.nb_engine.specs.Frame.{KeepsOutsideRun, RanSession}
 use Rattle.nb_engine.specs.declared.refusal.Refusal.{Refusal}
 use Rattle.nb_engine.specs.Refusal.{NeedsNoCause, of_host}
-use Rattle.nb_engine.specs.Steps.{IsSpoilt}
+use Rattle.nb_engine.specs.Steps.{IsStateDamaged}
 use Rattle.nb_host.specs.declared.host.Channel.TheVariants as channels
 use Rattle.nb_engine.proofs.EachImages.{durable_said}
 use Rattle.nb_engine.proofs.Filling.{host_handed, ok_handed, host_cause}
@@ -42,7 +42,7 @@ pub returns-in_err-keep_gone-clause-cause : goal.returns-in_err-keep_gone-clause
 returns-in_err-keep_gone-clause-cause g c =
     let error = c.in_err-keep_gone.field-0.0 in
     let handed_on : c.from_residual-in_err-keep_gone.result ≡ Err error = search rules in
-    let why : NeedsNoCause error ⊎ IsSpoilt g.H.Host.meaning c.args.journal c.args.host.now error =
+    let why : NeedsNoCause error ⊎ IsStateDamaged g.H.Host.meaning c.args.journal c.args.host.now error =
     fewer_spoilt g.H.Host.meaning c.args.journal c.args.host.now c.fill.new.host c.in_ok-gone.gone error
     c.in_err-keep_gone.ensures.fewer c.in_ok-gone.ensures.next in
     rw handed_on why
@@ -65,7 +65,7 @@ pub returns-in_err-next-clause-cause : goal.returns-in_err-next-clause-cause
 returns-in_err-next-clause-cause g c =
     let error = c.in_err-next.field-0.0 in
     let handed_on : c.from_residual-in_err-next.result ≡ Err (of_host error) = search rules in
-    let why : NeedsNoCause (of_host error) ⊎ IsSpoilt g.H.Host.meaning c.args.journal c.args.host.now (of_host error) =
+    let why : NeedsNoCause (of_host error) ⊎ IsStateDamaged g.H.Host.meaning c.args.journal c.args.host.now (of_host error) =
     inl (host_cause error) in
     rw handed_on why
 
@@ -92,7 +92,7 @@ pub returns-in_err-say-clause-cause : goal.returns-in_err-say-clause-cause
 returns-in_err-say-clause-cause g c =
     let error = c.in_err-say.field-0.0 in
     let handed_on : c.from_residual-in_err-say.result ≡ Err (of_host error) = search rules in
-    let why : NeedsNoCause (of_host error) ⊎ IsSpoilt g.H.Host.meaning c.args.journal c.args.host.now (of_host error) =
+    let why : NeedsNoCause (of_host error) ⊎ IsStateDamaged g.H.Host.meaning c.args.journal c.args.host.now (of_host error) =
     inl (host_cause error) in
     rw handed_on why
 
@@ -101,7 +101,7 @@ returns-in_err-say-clause-ran g c =
     let error = c.in_err-say.field-0.0 in
     let handed_on : c.from_residual-in_err-say.result ≡ Err (of_host error) = search rules in
     let fine : Result (Unit {0}) Refusal = Ok tt in
-    let before : RanSession g.H.Host.meaning KeepsApart c.args.host.now c.append.new.host fine =
+    let before : RanSession g.H.Host.meaning KeepsOutsideRun c.args.host.now c.append.new.host fine =
     entry_frame c.args.journal.progress.ticks (search rules) c.fill.ensures.ran c.append.ensures.ran (ok_handed (search rules) refl)
     (λ _. search rules) in
     line_frame refl before c.say.ensures.spoke (host_handed error c.in_err-say.was handed_on) (λ ok. search rules)
@@ -153,7 +153,7 @@ returns-clause-images g c = λ h at up.
 pub returns-clause-ran : goal.returns-clause-ran
 returns-clause-ran g c =
     let fine : Result (Unit {0}) Refusal = Ok tt in
-    let before : RanSession g.H.Host.meaning KeepsApart c.args.host.now c.append.new.host fine =
+    let before : RanSession g.H.Host.meaning KeepsOutsideRun c.args.host.now c.append.new.host fine =
     entry_frame c.args.journal.progress.ticks (search rules) c.fill.ensures.ran c.append.ensures.ran (ok_handed (search rules) refl)
     (λ _. search rules) in
     line_frame refl before c.say.ensures.spoke (ok_handed (search rules) (search rules)) (λ ok. search rules)

@@ -2,7 +2,7 @@ use Rattle.std.proofs.Common.{◌≡◌, ◌∙◌, ap, arith}
 use Rattle.std.proofs.lemmas.List.{take_at}
 use Rattle.std.proofs.lemmas.List.Elements.{All-same}
 use Rattle.nb_model.specs.Leapfrog.{kick, drift, step}
-use Rattle.nb_model.specs.Valid.{IsKickedBody}
+use Rattle.nb_model.specs.Valid.{IsBodyAfterKick}
 use Rattle.nb_model.proofs.Facts.{All-kick, drift-kick_valid, step_valid}
 use Rattle.nb_fixed.proofs.leapfrog.plain_tick.Goals as goal
 
@@ -12,7 +12,7 @@ drift-requires c =
     let way = c.args.way in
     let bodies = c.args.bodies.now.items in
     let kicked : c.deref_mut.result.now ≡ kick params way bodies = c.deref_mut.ensures.value ∙ c.in_ok-drifted.ensures ∙ ap (kick params way) c.deref.ensures.value in
-    All-same IsKickedBody c.deref_mut.result.now (kick params way bodies) kicked (All-kick params way bodies c.requires.valid)
+    All-same IsBodyAfterKick c.deref_mut.result.now (kick params way bodies) kicked (All-kick params way bodies c.requires.valid)
 
 pub kick-requires-2-clause-valid : goal.kick-requires-2-clause-valid
 kick-requires-2-clause-valid c =

@@ -5,7 +5,7 @@ use Rattle.nb_format.specs.declared.snap_error.SnapError.{SnapError}
 use Rattle.nb_format.specs.declared.snap_error.SnapError.TheVariants as snap
 use Rattle.nb_format.specs.LineEnds.{IsOneLine}
 use Rattle.nb_format.specs.Lines.{words_text, params_text, snapshot_text, heavy_text, not_started_text, already_text, leg_text, limit_text, there_text, many_text, device_text, damaged_text, memory_text}
-use Rattle.nb_format.specs.RefusalLines.{IsTold, HasParamsLine, HasSnapshotLine, IsRefusalLine, Words, Params, Snapshot, Heavy, NotStarted, Already, OpenLeg, Limit, There, Many, Device, Damaged, Memory}
+use Rattle.nb_format.specs.RefusalLines.{FitsU128, HasParamsLine, HasSnapshotLine, IsRefusalLine, Words, Params, Snapshot, Heavy, NotStarted, Already, OpenLeg, Limit, There, Many, Device, Damaged, Memory}
 use Rattle.nb_format.proofs.SaidLines.{literal, number, word, ends, ends_word, missing-one_line, flawed-one_line}
 use Rattle.nb_format.proofs.line_laws.law_refusal_lines.Goals as goal
 
@@ -39,7 +39,7 @@ words_line : IsOneLine words_text
 unfolding words_text
 words_line = ends (literal (codes "nbody: the words are not a command") refl)
 
-heavy_line : (grav mass : ℕ) → IsTold grav → IsTold mass → IsOneLine (heavy_text grav mass)
+heavy_line : (grav mass : ℕ) → FitsU128 grav → FitsU128 mass → IsOneLine (heavy_text grav mass)
 unfolding heavy_text
 heavy_line grav mass few_grav few_mass =
     ends_word (number (word (number (literal (codes "nbody: grav ") refl) grav few_grav) (codes " times mass ") refl) mass few_mass)
@@ -53,12 +53,12 @@ already_line : IsOneLine already_text
 unfolding already_text
 already_line = ends (literal (codes "nbody: already started") refl)
 
-leg_line : (target time : ℕ) → IsTold target → IsTold time → IsOneLine (leg_text target time)
+leg_line : (target time : ℕ) → FitsU128 target → FitsU128 time → IsOneLine (leg_text target time)
 unfolding leg_text
 leg_line target time few_target few_time =
     ends (number (word (number (literal (codes "nbody: the leg to ") refl) target few_target) (codes " is open at time ") refl) time few_time)
 
-limit_line : (ticks : ℕ) → IsTold ticks → IsOneLine (limit_text ticks)
+limit_line : (ticks : ℕ) → FitsU128 ticks → IsOneLine (limit_text ticks)
 unfolding limit_text
 limit_line ticks few =
     ends_word (number (literal (codes "nbody: ") refl) ticks few) (codes " ticks are more than 2^40") refl
@@ -67,7 +67,7 @@ there_line : IsOneLine there_text
 unfolding there_text
 there_line = ends (literal (codes "nbody: params or init.nbs is there") refl)
 
-many_line : (count : ℕ) → IsTold count → IsOneLine (many_text count)
+many_line : (count : ℕ) → FitsU128 count → IsOneLine (many_text count)
 unfolding many_text
 many_line count few =
     ends_word (number (literal (codes "nbody: ") refl) count few) (codes " bodies are more than 4096") refl
@@ -76,7 +76,7 @@ device_line : IsOneLine device_text
 unfolding device_text
 device_line = ends (literal (codes "nbody: a device fault") refl)
 
-damaged_line : (file place : ℕ) → IsTold file → IsTold place → IsOneLine (damaged_text file place)
+damaged_line : (file place : ℕ) → FitsU128 file → FitsU128 place → IsOneLine (damaged_text file place)
 unfolding damaged_text
 damaged_line file place few_file few_place =
     ends (number (word (number (literal (codes "nbody: damaged file ") refl) file few_file) (codes " at ") refl) place few_place)

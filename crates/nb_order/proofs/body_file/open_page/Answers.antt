@@ -2,7 +2,7 @@ use Rattle.std.proofs.Common.{◌≡◌, ◌/◌, Err, ap, sym, subst, ◌∙◌
 use Rattle.nb_host.specs.declared.page_name.PageName.{PageName}
 use Rattle.nb_host.specs.Page.{page_of}
 use Rattle.nb_record.specs.declared.sizes.TheConstants.{BODIES_PER_PAGE}
-use Rattle.nb_record.specs.Pages.{page_count, IsBodyPage}
+use Rattle.nb_record.specs.Pages.{record_count, IsBodyPage}
 use Rattle.nb_cache.specs.View.{IsWhole, seen}
 use Rattle.nb_cache.proofs.Callers.{no_file, lent_page}
 use Rattle.nb_order.specs.declared.order_error.OrderError.TheVariants.{Damaged}
@@ -30,7 +30,7 @@ returns-then-not-has_bodies-clause-damaged g c = λ name is.
     ∙ ap (λ (n : PageName). page_of (view n.file) n.page) c.page_name-name.ensures.value in
     let form = subst (λ (n : PageName). IsBodyPage n.page bytes) (sym c.page_name-name.ensures.value)
     (subst (IsBodyPage (c.args.index / BODIES_PER_PAGE)) (sym here) (has.form c.if-count-eq0.false)) in
-    let count = ap page_count here ∙ has.count c.if-count-eq0.false in
+    let count = ap record_count here ∙ has.count c.if-count-eq0.false in
     let yes = c.has_bodies.ensures.1 (form, count) in
     let no = c.if-not-has_bodies.true in
     (cc))

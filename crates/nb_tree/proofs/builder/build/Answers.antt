@@ -1,5 +1,5 @@
 use Rattle.std.proofs.Common.{◌≡◌, ◌*◌, ◌≤◌, ◌++◌, ◌∷◌, [], Err, inl, inr, sym, ap, subst, ◌∙◌, rules}
-use Rattle.nb_model.specs.Leapfrog.{in_box}
+use Rattle.nb_model.specs.Leapfrog.{unescaped}
 use Rattle.nb_cache.specs.View.{seen}
 use Rattle.nb_cache.proofs.Callers.{no_file, other_file}
 use Rattle.nb_record.specs.Order.{by_key, sorted_by}
@@ -113,7 +113,7 @@ returns-clause-tree g c = λ tells list holds sorted long.
     let cells_is : c.in_ok-table.table.file ≡ c.args.cells = ap (λ (t : CellTable). t.file) c.in_ok-table.ensures.value in
     let all = goes_on (goes_read made c.begin.ensures.ran (search rules)) (ran_in cells_is c.root.ensures.ran) (search rules) in
     let sorted_list = sorted_by by_key list in
-    let front = in_box sorted_list in
+    let front = unescaped sorted_list in
     let fronts = front_of_list (before c.args.bodies) sorted_list holds sorted c.args.count (length-sorted_by by_key list ∙ long) in
     let passed = c.in_ok-sums.ensures.passed tells c.args.params.now front begun.leaf (front_there begun fronts) (begun.at front fronts) in
     let has = passed.1 [] begun.holds (may_all begun c.requires.count fronts) in

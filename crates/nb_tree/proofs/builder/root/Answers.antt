@@ -3,7 +3,7 @@ use Rattle.nb_cache.specs.View.{seen}
 use Rattle.nb_record.specs.Cells.{first_body, in_cell}
 use Rattle.nb_tree.specs.declared.tree_error.TreeError.TheVariants.{Fault, Damaged}
 use Rattle.nb_tree.specs.declared.sums.Sums.{Sums}
-use Rattle.nb_tree.specs.Passes.{LiesIn, HoldsCells, MayStand, Inserts, HasPassed, AreSums, put_below, kid, finished}
+use Rattle.nb_tree.specs.Passes.{LiesIn, HoldsCells, MayStand, Inserts, HasPassed, AreSums, put_below, kid, tree_cell}
 use Rattle.nb_tree.proofs.Calls.{goes_none, goes_on, goes_ends, goes_done, ran_in}
 use Rattle.nb_tree.proofs.Inserting.{inserts_none, inserts_then, inserts_are, may_front}
 use Rattle.nb_tree.proofs.Roots.{is_some_other, lies_in_root, root_first, empty_front, empty_put, root_kid, root_all}
@@ -55,10 +55,10 @@ returns-in_err-put-clause-damaged g c = λ name is tells held. inr (λ params fr
     (subst (λ k. first_body front (in_cell 0 k front) ≡ c.args.reader.now.taken) (sym key) (root_first front (front_sorted fronts) ∙ sym c.requires.begins))) in
     let some = root_kid params front (front_sorted fronts) c.args.reader.now.taken (next_of_lies at (lies_in_root c.args.reader.now (is_some_other c.args.reader.now.ahead c.is_none.ensures c.if-is_none.false))) in
     let cell_is = c.cell.ensures.value ∙ passed.cell in
-    let whole = subst MayStand (ap (λ l. cells ++ (put_below params front 21 1 ++ l)) some ∙ sym (append_assoc cells (put_below params front 21 1) (finished params front 0 1 ∷ []))) may in
+    let whole = subst MayStand (ap (λ l. cells ++ (put_below params front 21 1 ++ l)) some ∙ sym (append_assoc cells (put_below params front 21 1) (tree_cell params front 0 1 ∷ []))) may in
     c.put.ensures.never name error tells (cells ++ put_below params front 21 1)
     (subst (λ f. HoldsCells (middle f) c.pass.new.maker (cells ++ put_below params front 21 1)) (sym c.pass.ensures.same.file)
-    (passed.inserts cells holds (may_front (cells ++ put_below params front 21 1) (finished params front 0 1 ∷ []) whole)))
+    (passed.inserts cells holds (may_front (cells ++ put_below params front 21 1) (tree_cell params front 0 1 ∷ []) whole)))
     (subst (λ x. MayStand ((cells ++ put_below params front 21 1) ++ x ∷ [])) (sym cell_is) whole))
 
 pub returns-in_err-put-clause-ran : goal.returns-in_err-put-clause-ran

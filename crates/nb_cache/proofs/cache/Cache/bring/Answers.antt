@@ -1,7 +1,7 @@
 use Rattle.std.proofs.Common.{◌≡◌, OnOk, Result, Ok, Err, [], ◌∷◌, Contains, ap, refl, sym, subst, ◌∙◌, arith, rules}
 use Rattle.nb_host.specs.Page.{HasPage}
 use Rattle.nb_host.proofs.Callers.{leads_none}
-use Rattle.nb_cache.specs.Names.{used, IsMoved}
+use Rattle.nb_cache.specs.Names.{used, IsPromoted}
 use Rattle.nb_cache.specs.InStep.{IsInStep}
 use Rattle.nb_cache.specs.View.{CacheValue, IsWhole, names_of}
 use Rattle.nb_cache.specs.Writes.{Writes, RanCached}
@@ -30,7 +30,7 @@ returns-then-promote-clause-ran g c = record {
       (c.promote.ensures.pages ∙ ap (λ (v : CacheValue). v.pages) c.self.view_is)
       (leads_none g.H.Host.meaning c.args.host.now (λ image. refl)) (omega arith) refl
       (ap (λ (v : CacheValue). v.unwritten) c.self.view_is) c.len.ensures.sound c.args.name
-      (subst (λ (v : CacheValue). IsMoved c.args.name v.held c.promote.new.self.held) c.self.view_is
+      (subst (λ (v : CacheValue). IsPromoted c.args.name v.held c.promote.new.self.held) c.self.view_is
       (c.promote.ensures.moved c.if-promote.true));
   rose = search rules;
   spared = λ _. refl;

@@ -3,7 +3,7 @@ use Rattle.std.proofs.lemmas.List.{drop_all}
 use Rattle.lru.proofs.Splits.{Contains-nil}
 use Rattle.nb_host.proofs.Callers.{leads_none, stopped_after}
 use Rattle.nb_host.specs.declared.page_name.PageName.{PageName}
-use Rattle.nb_cache.specs.View.{CacheValue, Waits}
+use Rattle.nb_cache.specs.View.{CacheValue, IsDirty}
 use Rattle.nb_cache.proofs.Callers.{no_file, writes_again, writes_begins}
 use Rattle.nb_cache.proofs.Entries.{cache_of}
 use Rattle.nb_cache.proofs.Fitting.{rests}
@@ -17,7 +17,7 @@ loop-name-init g c =
     flushes_none g.H.Host.meaning c.args.self.now c.args.host.now c.deref-name-items.result.now c.len.ensures.sound
     c.requires
     (λ name one. subst (λ l. Contains l name) (sym c.deref-name-items.ensures.value)
-    (c.in_ok-names.ensures name (subst (λ (v : CacheValue). Waits v.held name) (sym c.self.view_is) one)))
+    (c.in_ok-names.ensures name (subst (λ (v : CacheValue). IsDirty v.held name) (sym c.self.view_is) one)))
 
 pub settle-requires : goal.settle-requires
 settle-requires g c = record { in_step = c.loop-name.invariant.writes.in_step }
@@ -33,7 +33,7 @@ pub returns-clause-ran : goal.returns-clause-ran
 returns-clause-ran g c =
     let m = g.H.Host.meaning in
     let so_far = c.loop-name.invariant in
-    let none : (name : PageName) → Waits c.loop-name.self.held name → ⊥ = λ name one.
+    let none : (name : PageName) → IsDirty c.loop-name.self.held name → ⊥ = λ name one.
     Contains-nil name (subst (λ l. Contains l name)
     (drop_all c.loop-name.name-index c.deref-name-items.result.now c.loop-name-test.false) (so_far.waits name one)) in
     record {
@@ -49,7 +49,7 @@ returns-clause-ran g c =
 pub returns-clause-written : goal.returns-clause-written
 returns-clause-written g c = λ tells file.
     let so_far = c.loop-name.invariant in
-    let none : (name : PageName) → Waits c.loop-name.self.held name → ⊥ = λ name one.
+    let none : (name : PageName) → IsDirty c.loop-name.self.held name → ⊥ = λ name one.
     Contains-nil name (subst (λ l. Contains l name)
     (drop_all c.loop-name.name-index c.deref-name-items.result.now c.loop-name-test.false) (so_far.waits name one)) in
     sym (overlaid_none file c.loop-name.self.held ((g.H.Host.meaning.contents c.loop-name.host).file file)

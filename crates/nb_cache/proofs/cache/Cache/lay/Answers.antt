@@ -42,7 +42,7 @@ returns-in_err-keep-clause-no_memory g c = λ _ file. record {
 
 pub returns-then-joins-clause-ran : goal.returns-then-joins-clause-ran
 returns-then-joins-clause-ran g c =
-    let held = subst (λ (w : Bool). c.keep.new.self.held ≡ record { name = c.args.name; bytes = c.args.bytes.now; waiting = w }
+    let held = subst (λ (w : Bool). c.keep.new.self.held ≡ record { name = c.args.name; bytes = c.args.bytes.now; dirty = w }
     ∷ take (c.args.self.now.pages - 1) (held_without c.args.name c.args.self.now.held)) c.if-joins.true
     c.in_ok-keep.ensures.held in
     record {
@@ -57,7 +57,7 @@ returns-then-joins-clause-ran g c =
 
 pub returns-then-joins-clause-view : goal.returns-then-joins-clause-view
 returns-then-joins-clause-view g c =
-    let held = subst (λ (w : Bool). c.keep.new.self.held ≡ record { name = c.args.name; bytes = c.args.bytes.now; waiting = w }
+    let held = subst (λ (w : Bool). c.keep.new.self.held ≡ record { name = c.args.name; bytes = c.args.bytes.now; dirty = w }
     ∷ take (c.args.self.now.pages - 1) (held_without c.args.name c.args.self.now.held)) c.if-joins.true
     c.in_ok-keep.ensures.held in
     seen_put g.H.Host.meaning c.args.self.now {old = c.args.host.now} c.keep.new.self {new = c.args.host.now}
@@ -67,7 +67,7 @@ returns-then-joins-clause-view g c =
 
 pub returns-then-joins-clause-torn : goal.returns-then-joins-clause-torn
 returns-then-joins-clause-torn g c =
-    let held = subst (λ (w : Bool). c.keep.new.self.held ≡ record { name = c.args.name; bytes = c.args.bytes.now; waiting = w }
+    let held = subst (λ (w : Bool). c.keep.new.self.held ≡ record { name = c.args.name; bytes = c.args.bytes.now; dirty = w }
     ∷ take (c.args.self.now.pages - 1) (held_without c.args.name c.args.self.now.held)) c.if-joins.true
     c.in_ok-keep.ensures.held in
     torn_put g.H.Host.meaning c.args.self.now {old = c.args.host.now} c.keep.new.self {new = c.args.host.now}
@@ -77,7 +77,7 @@ returns-then-joins-clause-torn g c =
 
 pub returns-in-Ok-clause-ran : goal.returns-in-Ok-clause-ran
 returns-in-Ok-clause-ran g c =
-    let held = subst (λ (w : Bool). c.keep.new.self.held ≡ record { name = c.args.name; bytes = c.args.bytes.now; waiting = w }
+    let held = subst (λ (w : Bool). c.keep.new.self.held ≡ record { name = c.args.name; bytes = c.args.bytes.now; dirty = w }
     ∷ take (c.args.self.now.pages - 1) (held_without c.args.name c.args.self.now.held)) c.if-joins.false
     c.in_ok-keep.ensures.held in
     let ran = c.write_at.ensures.ran in
@@ -92,7 +92,7 @@ returns-in-Ok-clause-ran g c =
 
 pub returns-in-Ok-clause-view : goal.returns-in-Ok-clause-view
 returns-in-Ok-clause-view g c =
-    let held = subst (λ (w : Bool). c.keep.new.self.held ≡ record { name = c.args.name; bytes = c.args.bytes.now; waiting = w }
+    let held = subst (λ (w : Bool). c.keep.new.self.held ≡ record { name = c.args.name; bytes = c.args.bytes.now; dirty = w }
     ∷ take (c.args.self.now.pages - 1) (held_without c.args.name c.args.self.now.held)) c.if-joins.false
     c.in_ok-keep.ensures.held in
     seen_once g.H.Host.meaning c.args.self.now {old = c.args.host.now} c.keep.new.self {new = c.write_at.new.self}
@@ -101,7 +101,7 @@ returns-in-Ok-clause-view g c =
 
 pub returns-in-Ok-clause-torn : goal.returns-in-Ok-clause-torn
 returns-in-Ok-clause-torn g c =
-    let held = subst (λ (w : Bool). c.keep.new.self.held ≡ record { name = c.args.name; bytes = c.args.bytes.now; waiting = w }
+    let held = subst (λ (w : Bool). c.keep.new.self.held ≡ record { name = c.args.name; bytes = c.args.bytes.now; dirty = w }
     ∷ take (c.args.self.now.pages - 1) (held_without c.args.name c.args.self.now.held)) c.if-joins.false
     c.in_ok-keep.ensures.held in
     torn_once g.H.Host.meaning c.args.self.now {old = c.args.host.now} c.keep.new.self {new = c.write_at.new.self}
@@ -110,7 +110,7 @@ returns-in-Ok-clause-torn g c =
 
 pub returns-in-Err-clause-ran : goal.returns-in-Err-clause-ran
 returns-in-Err-clause-ran g c =
-    let held = subst (λ (w : Bool). c.keep.new.self.held ≡ record { name = c.args.name; bytes = c.args.bytes.now; waiting = w }
+    let held = subst (λ (w : Bool). c.keep.new.self.held ≡ record { name = c.args.name; bytes = c.args.bytes.now; dirty = w }
     ∷ take (c.args.self.now.pages - 1) (held_without c.args.name c.args.self.now.held)) c.if-joins.false
     c.in_ok-keep.ensures.held in
     let ran = c.write_at.ensures.ran in
@@ -129,7 +129,7 @@ returns-in-Err-clause-ran g c =
 
 pub returns-in-Err-clause-torn : goal.returns-in-Err-clause-torn
 returns-in-Err-clause-torn g c =
-    let held = subst (λ (w : Bool). c.keep.new.self.held ≡ record { name = c.args.name; bytes = c.args.bytes.now; waiting = w }
+    let held = subst (λ (w : Bool). c.keep.new.self.held ≡ record { name = c.args.name; bytes = c.args.bytes.now; dirty = w }
     ∷ take (c.args.self.now.pages - 1) (held_without c.args.name c.args.self.now.held)) c.if-joins.false
     c.in_ok-keep.ensures.held in
     torn_left g.H.Host.meaning c.args.self.now {old = c.args.host.now} c.keep.new.self {new = c.write_at.new.self}
@@ -141,7 +141,7 @@ returns-in-Err-clause-torn g c =
 
 pub returns-in-Err-clause-no_memory : goal.returns-in-Err-clause-no_memory
 returns-in-Err-clause-no_memory g c = λ wants file.
-    let held = subst (λ (w : Bool). c.keep.new.self.held ≡ record { name = c.args.name; bytes = c.args.bytes.now; waiting = w }
+    let held = subst (λ (w : Bool). c.keep.new.self.held ≡ record { name = c.args.name; bytes = c.args.bytes.now; dirty = w }
     ∷ take (c.args.self.now.pages - 1) (held_without c.args.name c.args.self.now.held)) c.if-joins.false
     c.in_ok-keep.ensures.held in
     same_left g.H.Host.meaning c.args.self.now {old = c.args.host.now} c.keep.new.self {new = c.write_at.new.self}

@@ -1,5 +1,5 @@
 use Rattle.std.proofs.Common.{◌≡◌, ◌-◌, Bool, true, false, slice_get, Contains, length, ap, sym, subst, ◌∙◌, arith}
-use Rattle.nb_cache.specs.Names.{SparesWaiting}
+use Rattle.nb_cache.specs.Names.{SparesDirty}
 use Rattle.nb_cache.specs.View.{CacheValue, names_of}
 use Rattle.nb_cache.proofs.Rooms.{room_few, room_none, room_resident, room_settled}
 use Rattle.nb_cache.proofs.cache.Cache.make_room.Goals as goal
@@ -23,7 +23,7 @@ returns-in_default-clause-room g c =
 
 pub returns-clause-room : goal.returns-clause-room
 returns-clause-room g c =
-    subst (λ n. SparesWaiting c.args.name n c.settle.new.self.held) (sym c.settle.ensures.ran.writes.pages)
+    subst (λ n. SparesDirty c.args.name n c.settle.new.self.held) (sym c.settle.ensures.ran.writes.pages)
     (room_settled c.args.name c.args.self.now.pages c.args.self.now.held c.settle.new.self.held c.in-Some.last c.len.ensures.sound
     (omega (arith, ap (λ (v : CacheValue). v.pages) c.self.view_is, c.len.ensures.count, c.pages.ensures, c.if-len-pages.false))
     (λ has. absent (sym c.is_some.ensures ∙ c.if-is_some.false)

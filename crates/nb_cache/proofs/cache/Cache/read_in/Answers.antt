@@ -11,13 +11,13 @@ use Rattle.nb_cache.proofs.cache.Cache.read_in.Goals as goal
 
 -- the pages after a page was placed
 abbrev placed : PageName → List ℕ → Bool → ℕ → List Held → List Held
-placed k bytes waits pages held = record { name = k; bytes = bytes; waiting = waits } ∷ take (pages - 1) (held_without k held)
+placed k bytes waits pages held = record { name = k; bytes = bytes; dirty = waits } ∷ take (pages - 1) (held_without k held)
 
 placed_is : (k : PageName) (f : Frame) (bytes : List ℕ) (s : Stock) (c : CacheValue) (new : List Held) → f.bytes.items ≡ bytes
-    → f.waiting ≡ false → s.held ≡ c.held → s.pages ≡ c.pages → new ≡ placed k f.bytes.items f.waiting s.pages s.held
+    → f.dirty ≡ false → s.held ≡ c.held → s.pages ≡ c.pages → new ≡ placed k f.bytes.items f.dirty s.pages s.held
     → new ≡ placed k bytes false c.pages c.held
 placed_is k f bytes s c new same rests held pages is =
-    is ∙ ap (λ b. placed k b f.waiting s.pages s.held) same ∙ ap (λ w. placed k bytes w s.pages s.held) rests
+    is ∙ ap (λ b. placed k b f.dirty s.pages s.held) same ∙ ap (λ w. placed k bytes w s.pages s.held) rests
     ∙ ap (λ n. placed k bytes false n s.held) pages ∙ ap (λ l. placed k bytes false c.pages l) held
 
 pub returns-in_ok-place-in-Ok-clause-ran : goal.returns-in_ok-place-in-Ok-clause-ran
@@ -29,9 +29,9 @@ returns-in_ok-place-in-Ok-clause-ran g c =
           (c.place.ensures.pages ∙ c.take-frame.ensures.pages ∙ ap (λ (v : CacheValue). v.pages) c.self.view_is)
           ran.leads ran.count ran.tally (ap (λ (v : CacheValue). v.unwritten) c.self.view_is) c.len.ensures.sound c.args.name
           c.load.new.frame.bytes.items c.load.new.frame.whole c.requires.name c.requires.room
-          (placed_is c.args.name c.wait.new.self c.load.new.frame.bytes.items c.take-frame.new.self c.args.self.now
+          (placed_is c.args.name c.mark.new.self c.load.new.frame.bytes.items c.take-frame.new.self c.args.self.now
           c.place.new.self.held
-          (ap (λ (f : Frame). f.bytes.items) c.wait.ensures) (ap (λ (f : Frame). f.waiting) c.wait.ensures)
+          (ap (λ (f : Frame). f.bytes.items) c.mark.ensures) (ap (λ (f : Frame). f.dirty) c.mark.ensures)
           (c.take-frame.ensures.held ∙ ap (λ (v : CacheValue). v.held) c.self.view_is)
           (c.take-frame.ensures.pages ∙ ap (λ (v : CacheValue). v.pages) c.self.view_is)
           c.in_ok-place-in-Ok.ensures.held)

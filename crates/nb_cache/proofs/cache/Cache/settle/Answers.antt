@@ -1,6 +1,6 @@
 use Rattle.std.proofs.Common.{Contains, ap, refl, sym, subst, ◌∙◌, arith, rules}
-use Rattle.nb_cache.specs.Names.{settled}
-use Rattle.nb_cache.specs.View.{CacheValue, Waits, held_names, names_of}
+use Rattle.nb_cache.specs.Names.{with_clean}
+use Rattle.nb_cache.specs.View.{CacheValue, IsDirty, held_names, names_of}
 use Rattle.nb_cache.proofs.Entries.{cache_of}
 use Rattle.nb_cache.proofs.Laying.{settled_rests, settled_names}
 use Rattle.nb_cache.proofs.Settling.{page, writes_under, writes_settled}
@@ -8,7 +8,7 @@ use Rattle.nb_cache.proofs.cache.Cache.settle.Goals as goal
 
 pub returns-in_default-clause-settled : goal.returns-in_default-clause-settled
 returns-in_default-clause-settled g c =
-    let none = subst (λ (v : CacheValue). Waits v.held c.args.name → ⊥) c.self.view_is
+    let none = subst (λ (v : CacheValue). IsDirty v.held c.args.name → ⊥) c.self.view_is
     (c.in_default.ensures.none refl) in
     sym (settled_rests c.args.name c.args.self.now.held none)
 
@@ -55,7 +55,7 @@ returns-clause-ran g c =
           c.in-Some.bytes.now there c.len.ensures.sound c.requires.in_step c.write_at.ensures.ran.leads
           c.write_at.ensures.ran.count c.write_at.ensures.ran.tally
           (cache_of c.settle.new.self c.self.inside.unwritten)
-          (c.settle.ensures.held ∙ ap (λ (v : CacheValue). settled c.args.name v.held) c.self.view_is)
+          (c.settle.ensures.held ∙ ap (λ (v : CacheValue). with_clean c.args.name v.held) c.self.view_is)
           (ap (λ (v : CacheValue). v.unwritten) c.self.view_is)
           (c.settle.ensures.pages ∙ ap (λ (v : CacheValue). v.pages) c.self.view_is)
           c.in_ok-write_at.ensures.written;

@@ -12,9 +12,9 @@ returns-in-Some-clause-resident c = (
 
 pub returns-in-Some-clause-held : goal.returns-in-Some-clause-held
 returns-in-Some-clause-held c = (
-  c.in-Some.frame.now.waiting,
+  c.in-Some.frame.now.dirty,
   subst (λ (bytes : List ℕ). Contains c.args.self.now.held
-      (record { name = c.args.name; bytes = bytes; waiting = c.in-Some.frame.now.waiting }))
+      (record { name = c.args.name; bytes = bytes; dirty = c.in-Some.frame.now.dirty }))
       (sym c.deref.ensures.value)
       (lent_page c.self.inside.resident (vec_len c.self.inside.spare) (vec_capacity c.self.inside.spare) c.args.self.now c.self.view_is c.args.name
       c.in-Some.frame.now (sym c.in-Some.ensures)),

@@ -1,7 +1,7 @@
 use Rattle.std.proofs.Common.{[], ◌∷◌, subst, arith, rules}
 use Rattle.nb_host.specs.Image.{Image, IsOverwritten, FileBecomes}
 use Rattle.nb_host.proofs.Callers.{stays_contents}
-use Rattle.nb_format.specs.Snapshot.{gate}
+use Rattle.nb_format.specs.Snapshot.{snapshot_gate}
 use Rattle.nb_format.proofs.Writing.{gate_written}
 use Rattle.nb_format.proofs.Closing.{stays_closes, closes_leads}
 use Rattle.nb_format.proofs.snap_writer.Filling.close.Goals as goal
@@ -41,5 +41,5 @@ returns-clause-ran g c = record {
 
 pub returns-clause-finished : goal.returns-clause-finished
 returns-clause-finished g c = λ bodies tells filled.
-    let written = subst (λ (image : Image). FileBecomes c.args.self.file (IsOverwritten 0 (gate ∷ [])) image (g.H.Host.meaning.contents c.set_gate.new.host)) (stays_contents c.in_ok-sync.ensures.ran.leads) (c.in_ok-set_gate.ensures.set tells) in
+    let written = subst (λ (image : Image). FileBecomes c.args.self.file (IsOverwritten 0 (snapshot_gate ∷ [])) image (g.H.Host.meaning.contents c.set_gate.new.host)) (stays_contents c.in_ok-sync.ensures.ran.leads) (c.in_ok-set_gate.ensures.set tells) in
     gate_written c.args.self _ _ bodies filled c.requires (omega arith) written

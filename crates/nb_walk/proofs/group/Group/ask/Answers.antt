@@ -3,7 +3,7 @@ use Rattle.std.specs.Prelude.{All}
 use Rattle.std.specs.Vec.{with_items}
 use Rattle.std.proofs.lemmas.List.{with_items_is}
 use Rattle.nb_walk.specs.declared.group.Own.{Own}
-use Rattle.nb_walk.specs.Group.{own_items, HasNeed, IsGiven}
+use Rattle.nb_walk.specs.Group.{own_items, HasNeed, MayBeGiven}
 use Rattle.nb_walk.specs.Room.{HasRoom}
 use Rattle.nb_walk.specs.Running.{Each}
 use Rattle.nb_walk.proofs.Waits.{has_need, rooms_kept}
@@ -48,7 +48,7 @@ returns-clause-needs c = λ empty i d below.
     let between : c.deref_mut-2.result.now ≡ b = c.deref_mut-2.ensures.value ∙ asked in
     let inside : i < length a = let owns = was.owns in omega arith in
     let within : i < length c.deref_mut-2.result.now = let owns = was.owns in omega arith in
-    let given : IsGiven es i (get_or b i d) (get_or new i d) = subst (λ l. IsGiven es i (get_or l i d) (get_or new i d)) between (c.wait_for_shared.ensures.given i d within) in
+    let given : MayBeGiven es i (get_or b i d) (get_or new i d) = subst (λ l. MayBeGiven es i (get_or l i d) (get_or new i d)) between (c.wait_for_shared.ensures.given i d within) in
     let need : HasNeed i es (get_or new i d) =
     has_need i es (get_or a i d) (get_or b i d) (get_or new i d) (c.wait_for_own.ensures.items i d inside) (c.wait_for_own.ensures.needs i d inside) given (c.wait_for_shared.ensures.none i d within) in
     subst (λ l. HasNeed i (g.items.items ++ g.waits.items) (get_or l i d)) (sym written)

@@ -4,7 +4,7 @@ use Rattle.std.proofs.lemmas.Bool.{cond-true}
 use Rattle.std.proofs.lemmas.List.{take_more, take_all}
 use Rattle.std.proofs.lemmas.List.Elements.{All-push, All-same, All-nil}
 use Rattle.nb_walk.specs.Group.{own_items, all_shared, HasNeed, SomeNeed}
-use Rattle.nb_walk.specs.Room.{IsSmall}
+use Rattle.nb_walk.specs.Room.{IsItemInRange}
 use Rattle.nb_walk.specs.Page.{IsPageOf}
 use Rattle.nb_walk.proofs.Names.{names_more, names_same, names_none}
 use Rattle.nb_walk.proofs.Waits.{small_need}
@@ -32,7 +32,7 @@ page_name-requires-clause-small c =
     let inside : i < length g.owns.items = omega arith in
     let need : HasNeed i (all_shared g) own = subst (HasNeed i (all_shared g)) (sym same) (c.requires.needs i own (omega arith)) in
     let room = c.requires.group.rooms i own inside in
-    small_need i (all_shared g) own c.in-Some.item need (subst (λ o. All IsSmall (own_items o)) (sym same) room.small) c.requires.group.small c.in-Some.is
+    small_need i (all_shared g) own c.in-Some.item need (subst (λ o. All IsItemInRange (own_items o)) (sym same) room.small) c.requires.group.small c.in-Some.is
 
 pub loop-own-preserved : goal.loop-own-preserved
 loop-own-preserved c =

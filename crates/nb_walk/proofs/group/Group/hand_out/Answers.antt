@@ -5,7 +5,7 @@ use Rattle.std.proofs.lemmas.List.{with_items_is, length-append}
 use Rattle.nb_walk.specs.declared.group.Own.{Own}
 use Rattle.nb_walk.specs.declared.shared.SharedItem.{SharedItem}
 use Rattle.nb_walk.specs.Group.{own_items, SharesOut}
-use Rattle.nb_walk.specs.Room.{HasRoom, IsSmall}
+use Rattle.nb_walk.specs.Room.{HasRoom, IsItemInRange}
 use Rattle.nb_walk.specs.Running.{EachAt}
 use Rattle.nb_walk.specs.Shared.{is_left_to, items_of, IsShared}
 use Rattle.nb_walk.proofs.HandingOut.{rest_of, hands_out, group_with, shared_rest}
@@ -32,7 +32,7 @@ returns-then-others-ne0-clause-group c =
     let free : vec_len old.waits < vec_capacity old.waits = omega (arith, c.requires.room, group.waits, old.waits.ok.0, length-append old.items.items old.waits.items) in
     let pushed = pushed_on old.waits c.push.new.self (rest_of e others) (is_ok c.push.result) c.push.ensures.items c.push.ensures.succeeds free in
     let shared = shared_rest e others (length c.deref_mut.result.now) (length old.tallies.items) (omega (arith, long, group.owns)) c.if-others-ne0.true out.ensures.some in
-    group_with old _ (rest_of e others ∷ []) group refl refl refl count rooms pushed (all_one (λ (s : SharedItem). IsSmall s.item) (rest_of e others) c.requires.small) (all_one (IsShared (length old.tallies.items)) (rest_of e others) shared)
+    group_with old _ (rest_of e others ∷ []) group refl refl refl count rooms pushed (all_one (λ (s : SharedItem). IsItemInRange s.item) (rest_of e others) c.requires.small) (all_one (IsShared (length old.tallies.items)) (rest_of e others) shared)
     c.push.ensures.capacity (omega (arith, c.requires.room))
 
 pub returns-then-others-ne0-clause-hands : goal.returns-then-others-ne0-clause-hands
@@ -69,7 +69,7 @@ returns-else-others-ne0-clause-group c =
     let rooms = subst (All (λ o. HasRoom (own_items o))) (sym written) out.ensures.rooms in
     let R : ℕ → Own → Own → Type 0 = λ i. SharesOut e.item (is_left_to i e) (is_left_to i (rest_of e others)) in
     let shares = subst (λ l. EachAt R (length l) l (with_items old.owns xs).items) same (subst (EachAt R (length c.deref_mut.result.now) c.deref_mut.result.now) (sym written) out.ensures.shares) in
-    group_with old _ [] group refl refl refl count rooms (sym (append-nil old.waits.items)) (all_none (λ (s : SharedItem). IsSmall s.item)) (all_none (IsShared (length old.tallies.items)))
+    group_with old _ [] group refl refl refl count rooms (sym (append-nil old.waits.items)) (all_none (λ (s : SharedItem). IsItemInRange s.item)) (all_none (IsShared (length old.tallies.items)))
     (omega arith) (omega (arith, c.requires.room))
 
 pub returns-else-others-ne0-clause-hands : goal.returns-else-others-ne0-clause-hands

@@ -4,7 +4,7 @@ use Rattle.std.proofs.lemmas.Bool.{false≢true}
 use Rattle.std.proofs.lemmas.List.Elements.{All-contains}
 use Rattle.nb_walk.specs.declared.group.Group.{Group}
 use Rattle.nb_walk.specs.Group.{all_shared}
-use Rattle.nb_walk.specs.Room.{IsSmall}
+use Rattle.nb_walk.specs.Room.{IsItemInRange}
 use Rattle.nb_walk.specs.Shared.{IsShared}
 use Rattle.nb_walk.proofs.Passes.{passed_none, passed_all, passed_more, passed_same, bound_falls, left_group, left_room, is_among, kept_on, still_on, rooms_then}
 use Rattle.nb_walk.proofs.group.Group.pass.Goals as goal
@@ -97,7 +97,7 @@ pub take-requires-clause-small : goal.take-requires-clause-small
 take-requires-clause-small g c =
     let now = c.loop-entry.self in
     let rest : Group = record { tallies = now.tallies; owns = now.owns; items = c.take_one.new.entries; waits = now.waits; room = now.room } in
-    All-contains (λ x. IsSmall x.item) (all_shared now) c.in-Some.entry c.loop-entry.invariant.group.small (is_among now rest c.in-Some.entry c.in-Some.ensures.some)
+    All-contains (λ x. IsItemInRange x.item) (all_shared now) c.in-Some.entry c.loop-entry.invariant.group.small (is_among now rest c.in-Some.entry c.in-Some.ensures.some)
 
 pub take-requires-clause-room : goal.take-requires-clause-room
 take-requires-clause-room g c =

@@ -8,7 +8,7 @@ use Rattle.nb_walk.specs.declared.tally.Tally.{Tally}
 use Rattle.nb_walk.specs.Left.{step_bound}
 use Rattle.nb_walk.specs.Part.{KeepsTally, TakesPart, OnPart}
 use Rattle.nb_walk.specs.Room.{HasRoom}
-use Rattle.nb_walk.specs.Shown.{LooksAt}
+use Rattle.nb_walk.specs.Shown.{BlamesNext}
 use Rattle.nb_walk.proofs.OwnRuns.{KeepsOwns, RanOwn, keeps_set, keeps_walks, runs_more, runs_own, own_blames, own_sound, no_less}
 use Rattle.nb_walk.proofs.Runs.{any_default}
 use Rattle.nb_walk.proofs.group.Group.run_alone.Goals as goal
@@ -157,7 +157,7 @@ returns-in_err-run_own-clause-damaged g c = λ name e.
     let looks = c.run_own.ensures.damaged name error in
     let many = all.rooms.count in
     own_blames cells bodies params tree new i name all.group (omega arith) c.requires.some
-    (λ p. subst (λ q. LooksAt cells bodies tree (own_items q) name) (sym (get_or-set_same now.owns.items i o p inside)) looks)
+    (λ p. subst (λ q. BlamesNext cells bodies tree (own_items q) name) (sym (get_or-set_same now.owns.items i o p inside)) looks)
 
 pub returns-in_err-run_own-clause-sound : goal.returns-in_err-run_own-clause-sound
 returns-in_err-run_own-clause-sound g c = λ files all of_tree shows on.

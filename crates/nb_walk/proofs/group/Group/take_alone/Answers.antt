@@ -3,7 +3,7 @@ use Rattle.std.specs.Prelude.{vec_capacity}
 use Rattle.std.proofs.lemmas.List.{length-append}
 use Rattle.nb_walk.specs.declared.shared.SharedItem.{SharedItem}
 use Rattle.nb_walk.specs.Group.{group_walks, walks_with}
-use Rattle.nb_walk.specs.Room.{IsSmall}
+use Rattle.nb_walk.specs.Room.{IsItemInRange}
 use Rattle.nb_walk.specs.Shared.{IsShared}
 use Rattle.nb_walk.specs.Shown.{shown_for}
 use Rattle.nb_walk.proofs.HandingOut.{group_with, handed_run, handed_kept, handed_takes, handed_length, walks_many, unseen_of, on_ok_then}
@@ -23,7 +23,7 @@ returns-then-not-is_shown-clause-group g c =
     let group = c.requires.group in
     let free : vec_len old.waits < vec_capacity old.waits = omega (arith, c.requires.room, group.waits, old.waits.ok.0, length-append old.items.items old.waits.items) in
     let pushed = pushed_on old.waits c.push.new.self e (is_ok c.push.result) c.push.ensures.items c.push.ensures.succeeds free in
-    group_with old _ (e ∷ []) group refl refl refl refl group.rooms pushed (all_one (λ (s : SharedItem). IsSmall s.item) e c.requires.small) (all_one (IsShared (length old.tallies.items)) e c.requires.shared)
+    group_with old _ (e ∷ []) group refl refl refl refl group.rooms pushed (all_one (λ (s : SharedItem). IsItemInRange s.item) e c.requires.small) (all_one (IsShared (length old.tallies.items)) e c.requires.shared)
     c.push.ensures.capacity (omega (arith, c.requires.room))
 
 pub returns-then-not-is_shown-clause-took : goal.returns-then-not-is_shown-clause-took

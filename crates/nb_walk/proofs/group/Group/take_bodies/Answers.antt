@@ -10,7 +10,7 @@ use Rattle.nb_walk.specs.Group.{TakesShared}
 use Rattle.nb_walk.specs.Items.{page_for}
 use Rattle.nb_walk.specs.Left.{item_bound}
 use Rattle.nb_walk.specs.Part.{TakesPart}
-use Rattle.nb_walk.specs.Room.{IsSmall}
+use Rattle.nb_walk.specs.Room.{IsItemInRange}
 use Rattle.nb_walk.specs.Shared.{shared_by, IsShared}
 use Rattle.nb_walk.specs.Shown.{shown_for}
 use Rattle.nb_walk.specs.Taking.{page_terms}
@@ -66,7 +66,7 @@ pub returns-in-Some-Err-clause-group : goal.returns-in-Some-Err-clause-group
 returns-in-Some-Err-clause-group g c =
     let old = c.args.self.now in
     met_group c.args.params.now c.args.tree.now old c.requires.group c.requires.room c.requires.tallies (c.args.entry ∷ []) (with_shared old c.push-in-Some-Err.new.self) (bad_back g c)
-    (all_one (λ s. IsSmall s.item) c.args.entry c.requires.small) (all_one (IsShared (length old.tallies.items)) c.args.entry c.requires.shared) (omega arith)
+    (all_one (λ s. IsItemInRange s.item) c.args.entry c.requires.small) (all_one (IsShared (length old.tallies.items)) c.args.entry c.requires.shared) (omega arith)
 
 pub returns-in-Some-Err-clause-kept : goal.returns-in-Some-Err-clause-kept
 returns-in-Some-Err-clause-kept g c =
@@ -144,12 +144,12 @@ returns-then-count-here-clause-group g c =
     let old = c.args.self.now in
     let rest : SharedItem = record { item = item.Bodies (c.args.from + c.min-here.result) (c.args.count - c.min-here.result); block = c.args.entry.block; walks = c.args.entry.walks } in
     let shared = c.requires.shared in
-    let own = subst IsSmall c.requires.item c.requires.small in
+    let own = subst IsItemInRange c.requires.item c.requires.small in
     let low = own.0 in
     let high = own.1 in
     let more = c.if-count-here.true in
     met_group c.args.params.now c.args.tree.now old c.requires.group c.requires.room c.requires.tallies (rest ∷ []) (with_shared (with_tallies old c.meet_bodies.new.tallies) c.push-then-count-here.new.self) (more_met g c)
-    (all_one (λ s. IsSmall s.item) rest (omega arith, omega arith)) (all_one (IsShared (length old.tallies.items)) rest (record { walk = shared.walk; has = shared.has; below = shared.below })) (omega arith)
+    (all_one (λ s. IsItemInRange s.item) rest (omega arith, omega arith)) (all_one (IsShared (length old.tallies.items)) rest (record { walk = shared.walk; has = shared.has; below = shared.below })) (omega arith)
 
 pub returns-then-count-here-clause-kept : goal.returns-then-count-here-clause-kept
 returns-then-count-here-clause-kept g c = λ i d below. ((more_took g c).ran i d below).kept
@@ -217,7 +217,7 @@ pub returns-then-index-here-clause-group : goal.returns-then-index-here-clause-g
 returns-then-index-here-clause-group g c =
     let old = c.args.self.now in
     met_group c.args.params.now c.args.tree.now old c.requires.group c.requires.room c.requires.tallies (c.args.entry ∷ []) (with_shared c.then-index-here.self c.push-then-index-here.new.self) (refused_back g c)
-    (all_one (λ s. IsSmall s.item) c.args.entry c.requires.small) (all_one (IsShared (length old.tallies.items)) c.args.entry c.requires.shared) (omega arith)
+    (all_one (λ s. IsItemInRange s.item) c.args.entry c.requires.small) (all_one (IsShared (length old.tallies.items)) c.args.entry c.requires.shared) (omega arith)
 
 pub returns-then-index-here-clause-tallies : goal.returns-then-index-here-clause-tallies
 returns-then-index-here-clause-tallies g c =
@@ -253,7 +253,7 @@ returns-then-index-here-clause-sound g c = λ files bodies of_tree shows on.
     let bytes = c.in-Some-Ok.page in
     let x = item.Bodies from count in
     let small = c.min-here.ensures in
-    let own = subst IsSmall c.requires.item c.requires.small in
+    let own = subst IsItemInRange c.requires.item c.requires.small in
     let low = own.0 in
     let pages = c.count.ensures.value in
     let lent : IsLent cells shown params tree from bytes = record { answer = c.body_page.result; is = c.body_page.ensures; some = c.in-Some-Ok.is ∙ ap (λ r. Some r) c.in-Some-Ok.field-0-is } in

@@ -13,7 +13,7 @@ use Rattle.nb_walk.specs.Items.{chain_page, page_for}
 use Rattle.nb_walk.specs.Left.{item_bound, step_bound}
 use Rattle.nb_walk.specs.Looks.{opened_items}
 use Rattle.nb_walk.specs.Part.{KeepsTally, TakesPart}
-use Rattle.nb_walk.specs.Room.{IsSmall}
+use Rattle.nb_walk.specs.Room.{IsItemInRange}
 use Rattle.nb_walk.specs.Running.{Each, EachAt}
 use Rattle.nb_walk.specs.Shared.{shared_by, IsShared}
 use Rattle.nb_walk.specs.Shown.{shown_for}
@@ -70,7 +70,7 @@ pub returns-in-Damaged-clause-group : goal.returns-in-Damaged-clause-group
 returns-in-Damaged-clause-group g c =
     let old = c.args.self.now in
     met_group c.args.params.now c.args.tree.now old c.requires.group c.requires.room c.requires.tallies (c.args.entry ∷ []) (with_shared old c.push-in-Damaged.new.self) (bad_back g c)
-    (all_one (λ s. IsSmall s.item) c.args.entry c.requires.small) (all_one (IsShared (length old.tallies.items)) c.args.entry c.requires.shared) (omega arith)
+    (all_one (λ s. IsItemInRange s.item) c.args.entry c.requires.small) (all_one (IsShared (length old.tallies.items)) c.args.entry c.requires.shared) (omega arith)
 
 pub returns-in-Damaged-clause-kept : goal.returns-in-Damaged-clause-kept
 returns-in-Damaged-clause-kept g c =
@@ -129,11 +129,11 @@ returns-in-Next-clause-group g c =
     let old = c.args.self.now in
     let one : SharedItem = record { item = item.Cell c.args.key c.in-Next.next; block = c.args.entry.block; walks = c.args.entry.walks } in
     let shared = c.requires.shared in
-    let own = subst IsSmall c.requires.item c.requires.small in
+    let own = subst IsItemInRange c.requires.item c.requires.small in
     let later = c.in-Next.ensures.next.1 in
     let pages = c.requires.tree.pages in
     met_group c.args.params.now c.args.tree.now old c.requires.group c.requires.room c.requires.tallies (one ∷ []) (with_shared old c.push-in-Next.new.self) (next_met g c)
-    (all_one (λ s. IsSmall s.item) one (own.0, omega arith)) (all_one (IsShared (length old.tallies.items)) one (record { walk = shared.walk; has = shared.has; below = shared.below })) (omega arith)
+    (all_one (λ s. IsItemInRange s.item) one (own.0, omega arith)) (all_one (IsShared (length old.tallies.items)) one (record { walk = shared.walk; has = shared.has; below = shared.below })) (omega arith)
 
 pub returns-in-Next-clause-kept : goal.returns-in-Next-clause-kept
 returns-in-Next-clause-kept g c = λ i d below. ((next_took g c).ran i d below).kept
@@ -158,7 +158,7 @@ pub returns-in_default-clause-group : goal.returns-in_default-clause-group
 returns-in_default-clause-group g c =
     let old = c.args.self.now in
     met_group c.args.params.now c.args.tree.now old c.requires.group c.requires.room c.requires.tallies (c.args.entry ∷ []) (with_shared (with_tallies old c.meet_cell.new.tallies) c.push.new.self) (refused_back g c)
-    (all_one (λ s. IsSmall s.item) c.args.entry c.requires.small) (all_one (IsShared (length old.tallies.items)) c.args.entry c.requires.shared) (omega arith)
+    (all_one (λ s. IsItemInRange s.item) c.args.entry c.requires.small) (all_one (IsShared (length old.tallies.items)) c.args.entry c.requires.shared) (omega arith)
 
 pub returns-in_default-clause-kept : goal.returns-in_default-clause-kept
 returns-in_default-clause-kept g c =
@@ -274,7 +274,7 @@ returns-then-opened-ne0-clause-group g c =
       | inr one ↦ record { walk = one.0; has = one.2; below = λ i has. subst (λ (l : List Tally). i < length l) same (c.meet_cell.ensures.inside opened i c.in-Some.is has) }
     ] in
     met_group c.args.params.now c.args.tree.now old c.requires.group c.requires.room c.requires.tallies (shared_by c.args.entry.block opened (opened_items cell)) c.open.new.self (opened_met g c)
-    (All-map (λ s. IsSmall s.item) share (opened_items cell) (opened_small cell c.in-Cell.ensures.form))
+    (All-map (λ s. IsItemInRange s.item) share (opened_items cell) (opened_small cell c.in-Cell.ensures.form))
     (All-map (IsShared (length old.tallies.items)) share (opened_items cell) (λ k d below. shared (get_or (opened_items cell) k d)))
     (omega (arith, length-map (opened_items cell) share))
 

@@ -5,7 +5,7 @@ use Rattle.nb_walk.specs.Pool.{BlamesOne, all_needs}
 use Rattle.nb_walk.specs.Running.{KeepsWalk, HasRun}
 use Rattle.nb_walk.specs.Walk.{IsWalkOn}
 use Rattle.nb_walk.proofs.Pools.{step_of, each_to, tallies_in, new_targets, new_range, new_within, new_bound, new_lower, new_tree, goes_at, bound_lower, went_at, group_in, group_unasked, at_rest, group_settled, same_walks, wanted, finished_all, none_wanted, some_waits, is_ended, all_back, on_err}
-use Rattle.nb_model.specs.Leapfrog.{in_box}
+use Rattle.nb_model.specs.Leapfrog.{unescaped}
 use Rattle.nb_walk.proofs.Courses.{empty_list}
 use Rattle.nb_walk.proofs.Sharing.{walks_length}
 use Rattle.nb_walk.proofs.pool.Pool.advance.Goals as goal
@@ -304,5 +304,5 @@ returns-clause-tree g c = λ files all of_tree shows on.
     (λ some can.
     let needed = subst (λ l. Contains (all_needs l) (Some can.item)) (sym (ap (λ v. v.walks) c.self.view_is)) can.needed in
     let at = goes_at inside.asked old can.item c.self.invariant.0.owns c.self.invariant.7 needed in
-    let there : tree.count ≢ 0 = λ e. some (empty_list (in_box all) (sym of_tree.count ∙ e)) in
+    let there : tree.count ≢ 0 = λ e. some (empty_list (unescaped all) (sym of_tree.count ∙ e)) in
     (at.at, (let inside_ = at.within in omega arith), went_at cells bodies params tree old mid can.item c.self.invariant.0.owns (goes there) at can.shown))

@@ -1,7 +1,7 @@
 -- What the command `once` answers, and what it leaves.
 use Rattle.std.specs.Prelude.{◌≡◌, ◌⊎◌, ℕ, List, ⊤}
 use Rattle.nb_model.specs.Leapfrog.{escaped_count}
-use Rattle.nb_cli.specs.declared.once_command.Done.{Done}
+use Rattle.nb_engine.specs.declared.going.Done.{Done}
 use Rattle.nb_host.specs.Image.{Image, FileBecomes}
 use Rattle.nb_engine.specs.Start.{Start}
 use Rattle.nb_cli.specs.Once.{once_file, once_ticks, list_at, IsOnceReady}

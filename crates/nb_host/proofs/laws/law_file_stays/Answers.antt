@@ -1,5 +1,5 @@
 use Rattle.nb_host.proofs.Callers.{stays_left, others_spare, sync_spares, say_spares}
-use Rattle.nb_host.proofs.laws.law_left.Goals as goal
+use Rattle.nb_host.proofs.laws.law_file_stays.Goals as goal
 
 pub returns-clause-stays : goal.returns-clause-stays
 returns-clause-stays g c = λ file old new leads. stays_left g.H.Host.meaning leads
