@@ -77,6 +77,7 @@ impl Tally {
     }
 
     /// Adds the pull of a mass at `centre`, where with it no more than `most` is taken.
+    #[inline(always)]
     pub(crate) fn add(&mut self, params: &Params, most: u64, mass: u64, centre: &At) -> bool
         requires params { AreInRange params.now }
         requires target { IsInBox self.old.target }
