@@ -2,18 +2,26 @@
 # Times the root, the pull and the opening criterion of crates/nb_fixed, in an open box and in one that wraps: prints tenths
 # of nanoseconds a call,
 #   N bits   for softened squares of 20, 40, 60 and 80 bits
-#   walk     for what a walk down the tree of 4096 random bodies meets, of each 64th of them: the opening criterion of the cells
+#   walk     for what a walk down the tree of 10,000 random bodies meets, of each 64th of them: the opening criterion of the cells
 #            that it comes to, and the pulls of the cells that it takes and of the bodies of the leaves that it opens
 #   near     for the pulls of these that aren't 0 at once, as the softened square isn't above GM
-# It builds a small proved program over this checkout's crates in a temporary folder, and leaves nothing.
+# The program reads theta, the softening lengths and the edges at run time, so that no compiler folds them.
+# It builds a small proved program over this checkout's crates in a temporary folder, and leaves nothing. With KEEP set
+# to a folder, it copies the program there as `bench`, and what that reads as `stdin`.
+# To time an older commit beside this one, copy this script and small_program.sh into bench/ of a worktree of that
+# commit, run both with KEEP, and then run the two programs by turns, on one processor, for the least of each row. There
+# root, pull and opens have to have the signatures that they have here.
 set -eu
 . "$(dirname "$0")/small_program.sh"
 stand_on nb_model nb_fixed
-# What the walks meet, a line each: whether the walk tests it, whether it pulls, its level and whether its cell holds the body
-# that is pulled, the six coordinates of that body and of the centre, GM and the softened square.
+# On the first line the parameters: theta, the softening lengths of the fixed sizes and of the walks, and the two edges.
+# Then what the walks meet, a line each: whether the walk tests it, whether it pulls, its level and whether its cell
+# holds the body that is pulled, the six coordinates of that body and of the centre, GM and the softened square.
 python3 - >"$bench/stdin" <<'PYTHON'
-SEED, BODIES, STEP = 1, 4096, 64
+SEED, BODIES, STEP = 1, 10000, 64
 GRAV, SOFT, LEAF = (2**60 - 1) // (1000 * BODIES), 65536, 8
+THETA_NUM, THETA_DEN, SOFT_OF_FIXED_SIZES = 1, 2, 1
+OPEN, WRAP = 0, 1
 BOX_BITS, DEEPEST_LEVEL = 40, 21
 MASK = 2**64 - 1
 
@@ -66,6 +74,7 @@ for _ in range(BODIES):
     mass = 1 + next(words) % 1000
     bodies.append((mass, [2**39 - 2**25 + next(words) // 2**38 for _ in range(3)]))
 root = tree_of(0, bodies)
+print(THETA_NUM, THETA_DEN, SOFT_OF_FIXED_SIZES, SOFT, OPEN, WRAP)
 for _, body in bodies[::STEP]:
     walk(body, root)
 PYTHON
@@ -74,11 +83,11 @@ cat >"$bench/src/main.rt" <<'PROGRAM'
 #![tactic(auto)]
 
 ghost use Rattle.std.specs.Prelude.{◌≡◌, ◌*◌, ◌+◌, ◌^◌, ◌<◌, ◌≤◌, IfSome};
-ghost use Rattle.nb_model.specs.Limits.{deepest_level, gm_limit};
+ghost use Rattle.nb_model.specs.Limits.{box_side, deepest_level, gm_limit};
 ghost use Rattle.nb_model.specs.Valid.{AreInRange, IsInBox};
 
 use nb_fixed::{opens, pull, root};
-use nb_model::{At, Edge, Params, V3};
+use nb_model::{At, BOX_SIDE, Edge, Params, V3};
 use std::alloc::Global;
 use std::io::{self, BufRead, BufReader};
 use std::time::Instant;
@@ -94,6 +103,8 @@ const WALK_ROUNDS: u64 = 16;
 const WALK_TRIES: u64 = 25;
 const DEEPEST_LEVEL: u32 = 21;
 const GM_LIMIT: u64 = 1 << 60;
+/// The greatest numerator and denominator of theta.
+const MOST_THETA: u64 = 32768;
 
 fn next(state: u64) -> u64 {
     let a = state ^ (state << 13);
@@ -178,11 +189,46 @@ fn middle() -> At
     At { x: 549755813888, y: 549755813888, z: 549755813888 }
 }
 
-fn params(edge: Edge) -> Params
+/// The parameters that were read.
+#[derive(Clone, Copy)]
+struct Given {
+    theta_num: u64,
+    theta_den: u64,
+    soft: u64,
+    edge: Edge,
+    ghost theta_num_limit: { theta_num ≤ 32768 },
+    ghost some_theta_den: { 1 ≤ theta_den },
+    ghost theta_den_limit: { theta_den ≤ 32768 },
+    ghost some_soft: { 1 ≤ soft },
+    ghost soft_limit: { soft < box_side },
+}
+
+impl Given {
+    fn new(theta_num: u128, theta_den: u128, soft: u128, wraps: u128) -> Option<Given> {
+        let theta_num = u64::try_from(theta_num).ok()?;
+        let theta_den = u64::try_from(theta_den).ok()?;
+        let soft = u64::try_from(soft).ok()?;
+        if theta_num > MOST_THETA || theta_den < 1 || theta_den > MOST_THETA || soft < 1 || soft >= BOX_SIDE {
+            return None;
+        }
+        let edge = if wraps == 0 { Edge::Open } else { Edge::Wrap };
+        Some(Given { theta_num, theta_den, soft, edge })
+    }
+}
+
+fn params(given: Given) -> Params
     ensures range { AreInRange result }
     ensures unit { result.grav ≡ 1 }
 {
-    Params { grav: 1, theta_num: 1, theta_den: 2, soft: 1, leaf: 8, every: 100, edge }
+    Params {
+        grav: 1,
+        theta_num: given.theta_num,
+        theta_den: given.theta_den,
+        soft: given.soft,
+        leaf: 8,
+        every: 100,
+        edge: given.edge,
+    }
 }
 
 fn centre(case: &Case, round: u64) -> At
@@ -191,20 +237,26 @@ fn centre(case: &Case, round: u64) -> At
     At { x: coordinate(case.x ^ round % 4), y: coordinate(case.y), z: coordinate(case.z) }
 }
 
-fn pull_of(edge: Edge, case: &Case, round: u64) -> V3 {
-    pull(&params(edge), &middle(), case.weight % (1 << 60), &centre(case, round))
+fn pull_of(params: &Params, case: &Case, round: u64) -> V3
+    requires range { AreInRange params.now }
+    requires unit { params.now.grav ≡ 1 }
+{
+    pull(params, &middle(), case.weight % (1 << 60), &centre(case, round))
 }
 
-fn is_opened(edge: Edge, case: &Case, round: u64) -> bool {
+fn is_opened(params: &Params, case: &Case, round: u64) -> bool
+    requires { AreInRange params.now }
+{
     let level = 1 + (case.weight % 16) as u32;
-    opens(&params(edge), &middle(), level, &centre(case, round), false)
+    opens(params, &middle(), level, &centre(case, round), false)
 }
 
-fn time_pull(rt: &HostRuntime, edge: Edge, bits: u32) -> io::Result<()>
+fn time_pull(rt: &HostRuntime, given: Given, bits: u32) -> io::Result<()>
     requires low { 8 ≤ bits }
     requires high { bits ≤ 80 }
 {
     let cases = cases(rt, bits)?;
+    let params = params(given);
     let mut sum = 0i64;
     let mut none = 0u64;
     let mut least = u128::MAX;
@@ -212,7 +264,7 @@ fn time_pull(rt: &HostRuntime, edge: Edge, bits: u32) -> io::Result<()>
         let start = Instant::now(rt)?;
         for round in 0..ROUNDS {
             for case in &cases {
-                let kick = pull_of(edge, case, round);
+                let kick = pull_of(&params, case, round);
                 sum = sum.wrapping_add(kick.x).wrapping_add(kick.y).wrapping_add(kick.z);
                 if kick.x == 0 {
                     none = none.wrapping_add(1);
@@ -223,22 +275,23 @@ fn time_pull(rt: &HostRuntime, edge: Edge, bits: u32) -> io::Result<()>
     }
     let each = tenths(least, CALLS);
     let share = none / (CALLS * TRIES / 100);
-    println!(rt; "pull {edge:?} {bits} bits: {each} ({share} of 100 without a kick, sum {sum})")?;
+    println!(rt; "pull {:?} {bits} bits: {each} ({share} of 100 without a kick, sum {sum})", given.edge)?;
     Ok(())
 }
 
-fn time_opens(rt: &HostRuntime, edge: Edge, bits: u32) -> io::Result<()>
+fn time_opens(rt: &HostRuntime, given: Given, bits: u32) -> io::Result<()>
     requires low { 8 ≤ bits }
     requires high { bits ≤ 80 }
 {
     let cases = cases(rt, bits)?;
+    let params = params(given);
     let mut opened = 0u64;
     let mut least = u128::MAX;
     for _ in 0..TRIES {
         let start = Instant::now(rt)?;
         for round in 0..ROUNDS {
             for case in &cases {
-                if is_opened(edge, case, round) {
+                if is_opened(&params, case, round) {
                     opened = opened.wrapping_add(1);
                 }
             }
@@ -246,7 +299,7 @@ fn time_opens(rt: &HostRuntime, edge: Edge, bits: u32) -> io::Result<()>
         least = least.min(start.elapsed(rt)?.as_nanos());
     }
     let each = tenths(least, CALLS);
-    println!(rt; "opens {edge:?} {bits} bits: {each} ({opened} opened)")?;
+    println!(rt; "opens {:?} {bits} bits: {each} ({opened} opened)", given.edge)?;
     Ok(())
 }
 
@@ -297,6 +350,10 @@ fn position(x: u128, y: u128, z: u128) -> Option<At>
 /// What the walks meet: the cells that they test, and the terms that pull, with the softened squares of all.
 #[derive(Drop)]
 struct Walks {
+    /// The parameters of the fixed sizes, with each of the edges.
+    fixed: Vec<Given>,
+    /// Those of the walks.
+    given: Vec<Given>,
     tests: Vec<Test>,
     terms: Vec<Term>,
     near: Vec<Term>,
@@ -304,6 +361,22 @@ struct Walks {
 }
 
 impl Walks {
+    /// Takes up the parameters of the first line.
+    fn add_given(&mut self, numbers: &[u128]) -> io::Result<()> {
+        if numbers.len() != 6 {
+            return Ok(());
+        }
+        for edge in [numbers[4], numbers[5]] {
+            if let Some(given) = Given::new(numbers[0], numbers[1], numbers[2], edge) {
+                self.fixed.push(given)?;
+            }
+            if let Some(given) = Given::new(numbers[0], numbers[1], numbers[3], edge) {
+                self.given.push(given)?;
+            }
+        }
+        Ok(())
+    }
+
     /// Takes up the cell or the term of a line, and passes by what is none.
     fn add(&mut self, numbers: &[u128]) -> io::Result<()> {
         if numbers.len() != 12 {
@@ -336,6 +409,8 @@ impl Walks {
 fn read_walks(rt: &HostRuntime) -> io::Result<Walks> {
     let alloc = rt.alloc();
     let mut walks = Walks {
+        fixed: Vec::new(alloc),
+        given: Vec::new(alloc),
         tests: Vec::new(alloc),
         terms: Vec::new(alloc),
         near: Vec::new(alloc),
@@ -343,16 +418,10 @@ fn read_walks(rt: &HostRuntime) -> io::Result<Walks> {
     };
     for line in BufReader::new(alloc, rt.reader())?.lines(alloc) {
         let numbers = numbers_of(alloc, &line?)?;
+        walks.add_given(&numbers)?;
         walks.add(&numbers)?;
     }
     Ok(walks)
-}
-
-fn walk_params(edge: Edge) -> Params
-    ensures range { AreInRange result }
-    ensures unit { result.grav ≡ 1 }
-{
-    Params { soft: 65536, ..params(edge) }
 }
 
 fn time_walk_roots(rt: &HostRuntime, squares: &[u64]) -> io::Result<()> {
@@ -373,8 +442,8 @@ fn time_walk_roots(rt: &HostRuntime, squares: &[u64]) -> io::Result<()> {
     Ok(())
 }
 
-fn time_walk_pulls(rt: &HostRuntime, edge: Edge, name: &str, terms: &[Term]) -> io::Result<()> {
-    let params = walk_params(edge);
+fn time_walk_pulls(rt: &HostRuntime, given: Given, name: &str, terms: &[Term]) -> io::Result<()> {
+    let params = params(given);
     let mut sum = 0i64;
     let mut least = u128::MAX;
     for _ in 0..WALK_TRIES {
@@ -389,12 +458,12 @@ fn time_walk_pulls(rt: &HostRuntime, edge: Edge, name: &str, terms: &[Term]) -> 
     }
     let count = terms.len() as u64;
     let each = tenths(least, count.saturating_mul(WALK_ROUNDS));
-    println!(rt; "pull {edge:?} {name}: {each} ({count} terms, sum {sum})")?;
+    println!(rt; "pull {:?} {name}: {each} ({count} terms, sum {sum})", given.edge)?;
     Ok(())
 }
 
-fn time_walk_opens(rt: &HostRuntime, edge: Edge, tests: &[Test]) -> io::Result<()> {
-    let params = walk_params(edge);
+fn time_walk_opens(rt: &HostRuntime, given: Given, tests: &[Test]) -> io::Result<()> {
+    let params = params(given);
     let mut opened = 0u64;
     let mut least = u128::MAX;
     for _ in 0..WALK_TRIES {
@@ -409,31 +478,36 @@ fn time_walk_opens(rt: &HostRuntime, edge: Edge, tests: &[Test]) -> io::Result<(
     }
     let count = tests.len() as u64;
     let each = tenths(least, count.saturating_mul(WALK_ROUNDS));
-    println!(rt; "opens {edge:?} walk: {each} ({count} cells, {opened} opened)")?;
+    println!(rt; "opens {:?} walk: {each} ({count} cells, {opened} opened)", given.edge)?;
     Ok(())
 }
 
 fn main(rt: HostRuntime) -> io::Result<()> {
     let walks = read_walks(&rt)?;
     time_walk_roots(&rt, &walks.squares)?;
-    for edge in [Edge::Open, Edge::Wrap] {
-        time_walk_pulls(&rt, edge, "walk", &walks.terms)?;
-        time_walk_pulls(&rt, edge, "near", &walks.near)?;
-        time_walk_opens(&rt, edge, &walks.tests)?;
+    for given in &walks.given {
+        time_walk_pulls(&rt, *given, "walk", &walks.terms)?;
+        time_walk_pulls(&rt, *given, "near", &walks.near)?;
+        time_walk_opens(&rt, *given, &walks.tests)?;
     }
     time_root(&rt, 20)?;
     time_root(&rt, 40)?;
     time_root(&rt, 60)?;
     time_root(&rt, 80)?;
-    for edge in [Edge::Open, Edge::Wrap] {
+    for given in &walks.fixed {
         for bits in [20, 40, 60, 80] {
-            time_pull(&rt, edge, bits)?;
+            time_pull(&rt, *given, bits)?;
         }
         for bits in [20, 40, 60, 80] {
-            time_opens(&rt, edge, bits)?;
+            time_opens(&rt, *given, bits)?;
         }
     }
     Ok(())
 }
 PROGRAM
 run_bench 'root|pull|opens' <"$bench/stdin"
+if [ -n "${KEEP-}" ]; then
+    mkdir -p "$KEEP"
+    cp out/bench "$KEEP/bench"
+    cp stdin "$KEEP/stdin"
+fi
